@@ -146,10 +146,8 @@ label_at old xs x at all lt is =
     let long : length xs ≡ length old = sym (length-map xs view_of) ∙ ap length all in
     ap view_of is ∙ sym (get_or-map view_of xs at x no_cell (omega arith)) ∙ ap (λ cs. slice_index_or cs at no_cell) all
 
-pub unchanged : (text there : List ℕ) (s : Sheet) (at : ℕ) (src : KeptCell) → at < length s.cells → bytes_eq text there ≡ true → there ≡ string_bytes src.text → cell_of src ≡ slice_index_or s.cells at no_cell
-    → s ≡ edited_sheet (book.Change at text) s
-unchanged text there s at src lt same is cell =
-    ap (λ cs. sheet cs s.given) (sym (same_change s.cells at text lt (same_bytes text there same ∙ is ∙ ap (λ (c : Cell). c.source) cell)))
+pub unchanged : (text there : List ℕ) (s : Sheet) (at : ℕ) → at < length s.cells → bytes_eq text there ≡ true → there ≡ (slice_index_or s.cells at no_cell).source → s ≡ edited_sheet (book.Change at text) s
+unchanged text there s at lt same is = ap (λ cs. sheet cs s.given) (sym (same_change s.cells at text lt (same_bytes text there same ∙ is)))
 
 pub cell_now : (x : Rc KeptCell Global) (src : KeptCell) (n : ℕ) (text : List ℕ) → x.value ≡ src → src.label ≡ n → string_bytes src.text ≡ text → ◌≡◌ {A = Cell} (cell_of x.value) (record { label = n; source = text })
 cell_now x src n text value label same = ap cell_of value ∙ (λ i. record { label = label i; source = same i })

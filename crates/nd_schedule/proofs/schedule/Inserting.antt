@@ -1,6 +1,7 @@
 -- A cell that comes in, and the sweep behind it.
-use Rattle.std.proofs.Common.{◌≡◌, ℕ, Bool, ◌+◌, ◌-◌, ◌^◌, ◌<◌, ◌≤◌, ◌⊎◌, min, List, length, take, get_or, Some, None, IfSome, refl, sym, ap, subst, ◌∙◌, inl, inr, arith}
+use Rattle.std.proofs.Common.{◌≡◌, ℕ, Bool, ◌+◌, ◌-◌, ◌^◌, ◌<◌, ◌≤◌, ◌⊎◌, min, List, [], length, take, get_or, Some, None, IfSome, refl, sym, ap, subst, ◌∙◌, inl, inr, arith}
 use Rattle.std.specs.Prelude.{insert}
+use Rattle.std.specs.List.{All}
 use Rattle.std.proofs.lemmas.Bool.{cases_lt}
 use Rattle.std.proofs.lemmas.List.{ext_get_or, get_or-take, length-map}
 use Rattle.std.proofs.lemmas.List.Edits.{length-insert, get_or-insert_at, get_or-insert_below, get_or-insert_above}
@@ -28,9 +29,10 @@ use Rattle.nd_change.specs.Snapshots.{IsAlike}
 use Rattle.nd_change.specs.Steps.{Comes, IsWordOf}
 use Rattle.nd_change.proofs.Changes.{run_over}
 use Rattle.nd_change.proofs.Snapshots.{alike_runs, over_alike}
-use Rattle.nd_schedule.specs.Schedule.Snapshot.{IsBehind, StandsBefore}
+use Rattle.nd_schedule.specs.Schedule.Snapshot.{IsBehind, IsSnapshot, StandsBefore}
 use Rattle.nd_schedule.specs.Schedule.Sweep.{IsAt, IsFrame, CountsFront, Changes, changed, AreChanged, AreWords, IsKept}
-use Rattle.nd_schedule.proofs.schedule.Sweeping.{alike_self, alike_turned, counts_run, next_alike, none_yet, runs_over, stale_there}
+use Rattle.nd_schedule.proofs.schedule.Standing.{kept_in_front, kept_lists}
+use Rattle.nd_schedule.proofs.schedule.Sweeping.{alike_self, alike_turned, changed_none, counts_run, next_alike, none_yet, runs_over, stale_there}
 
 module _ (s : Sheet) (at : ℕ) (c : Cell) (le : at ≤ length s.cells) (d : AreDistinct (labels_of s.cells)) (label : c.label ≡ fresh_label s.cells) where
   abbrev pub old : Book
@@ -204,3 +206,32 @@ module _ (s : Sheet) (at : ℕ) (c : Cell) (le : at ≤ length s.cells) (d : Are
         words = λ k u r lt. word_at k u r (cases_lt k at) (cases_lt at k) lt;
         many = length-insert vs at w (omega (arith, whole, as_many)) ∙ ap (λ n. n + 1) as_many ∙ sym (length-insert ss at x (omega (arith, whole)));
       }
+
+-- ---- a cell that comes in behind the last one
+
+pub kept_last : {W : Type 0} (covers : W → Key → Bool) (u s t : Sheet) (n : ℕ) (c : Cell) (rs ss : List Record) (ws vs : List W) (x : Record) (w : W) → u ≡ s → n ≡ length s.cells → t ≡ sheet (insert s.cells (length s.cells) c) s.given → IsKept covers (book_of u) rs ws → c.label ≡ fresh_label s.cells
+    → ss ≡ insert rs n x → vs ≡ insert ws n w → x ≡ record_at (book_of s).world (entry_at (book_of (sheet (insert s.cells (length s.cells) c) s.given)) (length s.cells)) → IsWordOf covers w x → IsKept covers (book_of t) ss vs
+kept_last covers u s t n c rs ss ws vs x w view n_is t_is before label records words made word =
+    let kept : IsKept covers (book_of s) rs ws = subst (λ (u : Sheet). IsKept covers (book_of u) rs ws) view before in
+    let le : length s.cells ≤ length s.cells = omega arith in
+    let b : Book = book_of (sheet (insert s.cells (length s.cells) c) s.given) in
+    subst (λ (t : Sheet). IsKept covers (book_of t) ss vs) (sym t_is)
+    (subst (λ ss. IsKept covers b ss vs) (sym (records ∙ ap (λ n. insert rs n x) n_is))
+    (subst (λ vs. IsKept covers b (insert rs (length s.cells) x) vs) (sym (words ∙ ap (λ n. insert ws n w) n_is))
+    (kept_with s (length s.cells) c le kept.run.distinct label [] rs rs x kept.run.records (changed_none (book_of s) b (length s.cells) (length s.cells + 1)) refl (λ k r. refl) made covers ws w kept.many kept.words word)))
+
+pub snapshots_last : {X : Type 0} (place : X → ℕ) (session : X → Session) (pending : X → List Change) (u s t : Sheet) (c : Cell) → u ≡ s → t ≡ sheet (insert s.cells (length s.cells) c) s.given → AreDistinct (labels_of u.cells) → c.label ≡ fresh_label s.cells
+    → (xs : List X) → All (λ x. IsSnapshot (book_of u) (place x) (session x) (pending x)) xs → All (λ x. IsSnapshot (book_of t) (place x) (session x) (pending x)) xs
+snapshots_last {X} place session pending u s t c view t_is d label xs all =
+    let P : Sheet → X → Type 0 = λ u x. IsSnapshot (book_of u) (place x) (session x) (pending x) in
+    let le : length s.cells ≤ length s.cells = omega arith in
+    let behind : IsBehind (book_of s) (book_of (sheet (insert s.cells (length s.cells) c) s.given)) (length s.cells) = is_behind s (length s.cells) c le (subst (λ (u : Sheet). AreDistinct (labels_of u.cells)) view d) label in
+    subst (λ t. All (P t) xs) (sym t_is)
+    (kept_lists (P s) (P (sheet (insert s.cells (length s.cells) c) s.given)) xs xs refl (λ x one. kept_in_front (book_of s) (book_of (sheet (insert s.cells (length s.cells) c) s.given)) (length s.cells) (place x) (session x) (pending x) behind one.within one)
+    (subst (λ u. All (P u) xs) view all))
+
+pub stands_last : (s t : Sheet) (c : Cell) (n : ℕ) (h : Session) → t ≡ sheet (insert s.cells (length s.cells) c) s.given → n ≡ length t.cells → StandsBefore (book_of (sheet (insert s.cells (length s.cells) c) s.given)) (length s.cells + 1) h → StandsBefore (book_of t) n h
+stands_last s t c n h t_is n_is stands =
+    let le : length s.cells ≤ length s.cells = omega arith in
+    let long : n ≡ length s.cells + 1 = n_is ∙ ap (λ (t : Sheet). length t.cells) t_is ∙ length-insert s.cells (length s.cells) c le in
+    subst (λ (t : Sheet). StandsBefore (book_of t) n h) (sym t_is) (subst (λ n. StandsBefore (book_of (sheet (insert s.cells (length s.cells) c) s.given)) n h) (sym long) stands)

@@ -9,6 +9,9 @@ use Rattle.nd_schedule.specs.Schedule.Snapshot.{IsChangeAt}
 use Rattle.nd_schedule.specs.Schedule.Sweep.{CountsFront, IsAt, IsFrame, IsPlace}
 use Rattle.nd_schedule.proofs.schedule.Visiting.{both_parts, frame_part}
 
+pub itself : (n : ℕ) → n ≤ n
+itself n = omega arith
+
 module _ (old new : Book) (i j to : ℕ) (cs : List Cell) (rs : List Record) (given : World) (frame : IsFrame old new i j to cs rs given) (k n : ℕ) (le : i ≤ k) (order : k ≤ n) (below : n ≤ to) where
   pub part : IsFrame old new k (j + (k - i)) n cs rs given
   part = frame_part old new i j to cs rs given frame k n le order below

@@ -12,7 +12,8 @@ use Rattle.nd_model.specs.Cells.Footprint.{replayed, with_effects}
 use Rattle.nd_model.specs.Book.Sessions.{IsOnce}
 use Rattle.nd_model.specs.Book.Records.{Record, StillHolds}
 use Rattle.nd_model.specs.Book.Renaming.{AreDistinct}
-use Rattle.nd_model.specs.Book.Book.{Book, labels_of}
+use Rattle.nd_model.specs.Book.Book.{Book, Cell, labels_of}
+use Rattle.nd_model.specs.Book.Notebook.{Sheet}
 use Rattle.nd_model.specs.Book.Entries.{entries_of, entry_at, record_at, records_of, session_before}
 use Rattle.nd_model.proofs.Entries.{get_or-records_of}
 use Rattle.nd_model.proofs.Lazy.{length-entries}
@@ -82,6 +83,10 @@ hand_there old new i j d s since at is = record {
   once = at.hand.once;
 }
 
+-- what holds of a notebook holds of one that is the same
+pub along : (A B : Sheet → Type 0) (C : List Cell → Type 0) (t u : Sheet) → t ≡ u → A u → B u → C u.cells → A t × B t × C t.cells
+along A B C t u same a b c = (subst A (sym same) a, subst B (sym same) b, subst (λ (s : Sheet). C s.cells) (sym same) c)
+
 -- ---- snapshots behind an edit
 
 pub kept_in_front : (old new : Book) (front place : ℕ) (s : Session) (ds : List Change) → IsBehind old new front → place ≤ front → IsSnapshot old place s ds → IsSnapshot new place s ds
@@ -90,6 +95,10 @@ kept_in_front old new front place s ds behind le h = record {
   once = h.once;
   leads = subst (Leads ds s) (behind.same.1 place le) h.leads;
 }
+
+-- where nothing is edited yet
+pub behind_same : (b : Book) (front : ℕ) → front ≤ length b.cells → AreDistinct (labels_of b.cells) → IsBehind b b front
+behind_same b front within d = record { same = (refl, λ k le. refl); within = within; before = d; distinct = d }
 
 pub noted_on : {X : Type 0} (view : X → Change) (old new : Book) (place now : ℕ) (s : Session) (xs ys : List X) (x : X) → AreDistinct (labels_of new.cells) → IsChangeAt old new place now (view x) → ys ≡ xs ++ x ∷ [] → IsSnapshot old place s (map view xs) → IsSnapshot new now s (map view ys)
 noted_on view old new place now s xs ys x d noted grown h = record {

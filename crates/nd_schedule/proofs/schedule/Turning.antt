@@ -31,12 +31,16 @@ use Rattle.nd_change.specs.Steps.{Comes, IsWordOf, Leaves}
 use Rattle.nd_change.proofs.Changes.{run_over}
 use Rattle.nd_change.proofs.Snapshots.{alike_replays, alike_runs, over_alike}
 use Rattle.nd_schedule.specs.Schedule.Snapshot.{IsBehind, StandsBefore}
-use Rattle.nd_schedule.specs.Schedule.Sweep.{AreChanged, AreMoved, AreWords, Changes, changed, CountsFront, IsAt, IsComing, IsFrame, IsKept, IsMoving, IsPlace, IsRun}
+use Rattle.nd_schedule.specs.Schedule.Sweep.{AreChanged, AreFit, AreGathered, AreMoved, AreWords, Changes, changed, CountsFront, IsAt, IsComing, IsFrame, IsKept, IsMoving, IsPlace, IsRun}
 use Rattle.nd_schedule.proofs.schedule.Sweeping.{alike_self, alike_turned, counts_run, counts_same, fresh_there, kept_there, leaves_next, next_alike, runs_over, stale_there}
 
 pub if_ok_more : {X E : Type 0} {P Q : X → Type 0} (res : Result X E) → IfOk res P → ((x : X) → P x → Q x) → IfOk res Q
 if_ok_more (Ok x) p f = f x p
 if_ok_more (Err e) p f = tt
+
+pub if_ok_two : {X E : Type 0} {P Q R : X → Type 0} (res : Result X E) → IfOk res P → IfOk res Q → ((x : X) → P x → Q x → R x) → IfOk res R
+if_ok_two (Ok x) p q f = f x p q
+if_ok_two (Err e) p q f = tt
 
 -- what holds where there is a value, of a result that is one
 pub ended : {X E : Type 0} {P : Type 0} (res : Result X E) → IfOk res (λ _. P) → is_ok res ≡ true → P
@@ -468,3 +472,15 @@ pub turned_same : {X : Type 0} (xs : List X) (k : ℕ) (d : X) → k < length xs
 turned_same [] k d lt = absurd (omega arith)
 turned_same (x ∷ xs) zero d lt = refl
 turned_same (x ∷ xs) (suc k) d lt = ap (λ ys. x ∷ ys) (turned_same xs k d (omega arith))
+
+-- what was gathered, of a notebook of as many cells
+pub gathered_of : {X Y W : Type 0} {covers : W → Key → Bool} {record_of : X → Record} {word_of : X → W} {change : Y → ℕ × Record} {fit : Y → ℕ × Record × W} {old new : Book} {from to n m : ℕ} {one : Option X} {between behind : List Y} → n ≡ m
+    → AreGathered covers record_of word_of change fit old new from to n one between behind → AreGathered covers record_of word_of change fit old new from to m one between behind
+gathered_of {covers = covers} {fit = fit} {between = between} {behind = behind} same h = record {
+  moved = h.moved;
+  made = h.made;
+  stale = h.stale;
+  worded = h.worded;
+  fit_between = subst (λ n. AreFit covers n (map fit between)) same h.fit_between;
+  fit_behind = subst (λ n. AreFit covers n (map fit behind)) same h.fit_behind;
+}

@@ -1,5 +1,5 @@
 -- A sweep over the cells behind an edit, with the change that it has made.
-use Rattle.std.specs.Prelude.{◌≡◌, ◌↔◌, Contains, map, ℕ, ◌+◌, ◌-◌, ◌<◌, ◌≤◌, Bool, List, [], ◌∷◌, length, take, slice_index_or, insert, remove, nat_eq, ⊤, if◌then◌else◌}
+use Rattle.std.specs.Prelude.{◌≡◌, ◌↔◌, Contains, IfSome, MatchOption, Option, map, ℕ, ◌+◌, ◌-◌, ◌<◌, ◌≤◌, Bool, List, [], ◌∷◌, length, take, slice_index_or, insert, remove, nat_eq, ⊤, if◌then◌else◌}
 use Rattle.nd_model.specs.Cells.Session.{Session}
 use Rattle.nd_model.specs.Cells.Running.{Key, World}
 use Rattle.nd_model.specs.Book.Records.{Record}
@@ -145,3 +145,13 @@ pub record AreMoved (old new : Book) (from to : ℕ) (cs ds : Changes) : Type 0 
   pub behind_down : from < to → AreChanged old new (to + 1) (to + 1) (length old.cells) ds
   pub between_up : to < from → AreChanged old new to (to + 1) from cs
   pub behind_up : to < from → AreChanged old new (from + 1) (from + 1) (length old.cells) ds
+
+-- WHAT THE SWEEPS around a cell that moves gather: the record of that cell, where it was run, and with their words the records that are
+-- others between its two places and behind them.
+pub record AreGathered {X Y W : Type 0} (covers : W → Key → Bool) (record_of : X → Record) (word_of : X → W) (change : Y → ℕ × Record) (fit : Y → ℕ × Record × W) (old new : Book) (from to many : ℕ) (one : Option X) (between behind : List Y) : Type 0 where
+  pub moved : AreMoved old new from to (map change between) (map change behind)
+  pub made : MatchOption one (record_at old.world (entry_at old from) ≡ record_at new.world (entry_at new to)) (λ n. record_of n ≡ record_at new.world (entry_at new to))
+  pub stale : MatchOption one (¬ IsStale old new (entry_at new to)) (λ _. IsStale old new (entry_at new to))
+  pub worded : IfSome one (λ n. IsWordOf covers (word_of n) (record_of n))
+  pub fit_between : AreFit covers many (map fit between)
+  pub fit_behind : AreFit covers many (map fit behind)

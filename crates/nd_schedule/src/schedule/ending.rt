@@ -93,21 +93,19 @@ fn put_new<C: CellRunner>(
 }
 
 impl<C: CellRunner> Schedule<C> {
-    /// A session that is alike to the one behind the last cell, and the snapshots that were missing in front of it.
-    fn front_end(&mut self) -> Result<Front<C>, AllocError>
+    /// A session that is alike to the one behind the last cell. Snapshots that are missing in front of it are made.
+    fn front_end(&mut self) -> Result<C::Session, AllocError>
         ensures same { self.new ≡ self.old }
-        ensures session { IfOk result (λ f. StandsBefore (book_of self.old)
-            (length self.old.cells) (C.session_of f.session)) }
-        ensures fresh { IfOk result (λ f. All (λ s. IsSnapshot (book_of self.old) s.place
-            (C.kept_session s.version) (map C.change_of s.pending.items)) f.fresh.items) }
+        ensures session { IfOk result (λ s. StandsBefore (book_of self.old)
+            (length self.old.cells) (C.session_of s)) }
     {
         let at = self.cells.len();
-        let taken = take_end::<C>(self.alloc, &mut self.snapshots, at)?;
-        let Some(session) = taken else {
-            return self.front_before(at);
-        };
-        let fresh = Vec::new(self.alloc);
-        Ok(Front { session, fresh })
+        if let Some(session) = take_end::<C>(self.alloc, &mut self.snapshots, at)? {
+            return Ok(session);
+        }
+        let Front { session, fresh } = self.front_before(at)?;
+        put_fresh::<C>(&mut self.snapshots, fresh, at);
+        Ok(session)
     }
 
     /// Runs a new cell behind the last one.
@@ -142,6 +140,33 @@ impl<C: CellRunner> Schedule<C> {
         )
     }
 
+    /// Puts a cell that has run behind the last one. For want of memory the notebook stays as it is.
+    fn put_last(&mut self, cell: Rc<KeptCell>, next: usize, new: New<C>) -> Result<(), AllocError>
+        requires label { cell.value.label ≡ books.fresh_label self.old.cells }
+        requires next { (n : ℕ) → n < next
+            → IsTrue (is_label n self.old.cells || nat_eq n cell.value.label) }
+        requires made { C.recorded new.record.value
+            ≡ record_at (book_of self.old).world (entry_at (book_of (sheet (insert
+            self.old.cells (length self.old.cells) (cell_of cell.value)) self.old.given))
+            (length self.old.cells)) }
+        requires worded { IsWordOf C.covers new.word (C.recorded new.record.value) }
+        ensures ok { OnOk result (self.new ≡ sheet (insert self.old.cells
+            (length self.old.cells) (cell_of cell.value)) self.old.given) }
+        ensures err { OnErr result (self.new ≡ self.old) }
+    {
+        let at = self.cells.len();
+        put_new::<C>(
+            &mut self.cells,
+            &mut self.records,
+            &mut self.words,
+            at,
+            cell,
+            new,
+        )?;
+        self.least = next;
+        Ok(())
+    }
+
     /// Puts a new cell behind the last one, and gives its place. It is refused for want of memory alone.
     pub(crate) fn append(
         &mut self,
@@ -161,21 +186,11 @@ impl<C: CellRunner> Schedule<C> {
             (book_of (sheet (insert self.old.cells (length self.old.cells) (cell_of cell.value))
             self.old.given)) v.items) }
     {
-        let at = self.cells.len();
         let mut ran = Vec::new(self.alloc);
-        ran.push(at)?;
-        let Front { mut session, fresh } = self.front_end()?;
+        ran.push(self.cells.len())?;
+        let mut session = self.front_end()?;
         let new = self.run_end(meter, &cell, &mut session)?;
-        put_new::<C>(
-            &mut self.cells,
-            &mut self.records,
-            &mut self.words,
-            at,
-            cell,
-            new,
-        )?;
-        self.least = next;
-        put_fresh::<C>(&mut self.snapshots, fresh, at);
+        self.put_last(cell, next, new)?;
         keep_end::<C>(self.alloc, &mut self.snapshots, &self.records, &mut session);
         Ok(ran)
     }

@@ -20,7 +20,7 @@ ghost use Rattle.nd_schedule.specs.declared.schedule.ran.Shift.TheVariants as sh
 ghost use Rattle.nd_schedule.specs.Schedule.Snapshot.{IsNoted, IsSnapshot};
 ghost use Rattle.nd_schedule.specs.Schedule.Sweep.{
   AreFit,
-  AreMoved,
+  AreGathered,
   AreWords,
   CountsFront,
   IsAt,
@@ -318,35 +318,16 @@ pub(crate) fn move_down<C: CellRunner>(
     requires kept { (b : Book) → IsRun b (each_of C.recorded records.now)
         → All (λ s. IsSnapshot b s.place (C.kept_session s.version)
         (map C.change_of s.pending.items)) snapshots.now }
-    ensures moved { OnOk result ((old new : Book)
+    ensures gathered { OnOk result ((old new : Book)
         → IsMoving old new from to (cells_of cells.now) (each_of C.recorded records.now)
         (world_in (C.given world.now))
         → IsAt old new from from (C.change_of state.old.change) (C.session_of state.old.session)
         state.old.since
-        → AreMoved old new from to
-        (map (λ c. change_at c.place (C.recorded c.record.value)) moved.new.between.items)
-        (map (λ c. change_at c.place (C.recorded c.record.value)) moved.new.behind.items)) }
-    ensures made { OnOk result ((old new : Book)
-        → IsMoving old new from to (cells_of cells.now) (each_of C.recorded records.now)
-        (world_in (C.given world.now))
-        → IsAt old new from from (C.change_of state.old.change) (C.session_of state.old.session)
-        state.old.since
-        → MatchOption moved.new.made
-        (record_at old.world (entry_at old from) ≡ record_at new.world (entry_at new to))
-        (λ n. C.recorded n.record.value ≡ record_at new.world (entry_at new to))) }
-    ensures stale { OnOk result ((old new : Book)
-        → IsMoving old new from to (cells_of cells.now) (each_of C.recorded records.now)
-        (world_in (C.given world.now))
-        → IsAt old new from from (C.change_of state.old.change) (C.session_of state.old.session)
-        state.old.since
-        → MatchOption moved.new.made (¬ IsStale old new (entry_at new to))
-        (λ _. IsStale old new (entry_at new to))) }
-    ensures worded { OnOk result (IfSome moved.new.made
-        (λ n. IsWordOf C.covers n.word (C.recorded n.record.value))) }
-    ensures fit_between { OnOk result (AreFit C.covers (length cells.now)
-        (map (λ c. fit_at c.place (C.recorded c.record.value) c.word) moved.new.between.items)) }
-    ensures fit_behind { OnOk result (AreFit C.covers (length cells.now)
-        (map (λ c. fit_at c.place (C.recorded c.record.value) c.word) moved.new.behind.items)) }
+        → AreGathered C.covers (λ n. C.recorded n.record.value) (λ n. n.word)
+        (λ c. change_at c.place (C.recorded c.record.value))
+        (λ c. fit_at c.place (C.recorded c.record.value) c.word)
+        old new from to (length cells.now)
+        moved.new.made moved.new.between.items moved.new.behind.items) }
     ensures noted { OnOk result ((old new : Book)
         → IsMoving old new from to (cells_of cells.now) (each_of C.recorded records.now)
         (world_in (C.given world.now))
@@ -442,35 +423,16 @@ pub(crate) fn move_up<C: CellRunner>(
     requires kept { (b : Book) → IsRun b (each_of C.recorded records.now)
         → All (λ s. IsSnapshot b s.place (C.kept_session s.version)
         (map C.change_of s.pending.items)) snapshots.now }
-    ensures moved { OnOk result ((old new : Book)
+    ensures gathered { OnOk result ((old new : Book)
         → IsMoving old new from to (cells_of cells.now) (each_of C.recorded records.now)
         (world_in (C.given world.now))
         → IsAt old new to to (C.change_of state.old.change) (C.session_of state.old.session)
         state.old.since
-        → AreMoved old new from to
-        (map (λ c. change_at c.place (C.recorded c.record.value)) moved.new.between.items)
-        (map (λ c. change_at c.place (C.recorded c.record.value)) moved.new.behind.items)) }
-    ensures made { OnOk result ((old new : Book)
-        → IsMoving old new from to (cells_of cells.now) (each_of C.recorded records.now)
-        (world_in (C.given world.now))
-        → IsAt old new to to (C.change_of state.old.change) (C.session_of state.old.session)
-        state.old.since
-        → MatchOption moved.new.made
-        (record_at old.world (entry_at old from) ≡ record_at new.world (entry_at new to))
-        (λ n. C.recorded n.record.value ≡ record_at new.world (entry_at new to))) }
-    ensures stale { OnOk result ((old new : Book)
-        → IsMoving old new from to (cells_of cells.now) (each_of C.recorded records.now)
-        (world_in (C.given world.now))
-        → IsAt old new to to (C.change_of state.old.change) (C.session_of state.old.session)
-        state.old.since
-        → MatchOption moved.new.made (¬ IsStale old new (entry_at new to))
-        (λ _. IsStale old new (entry_at new to))) }
-    ensures worded { OnOk result (IfSome moved.new.made
-        (λ n. IsWordOf C.covers n.word (C.recorded n.record.value))) }
-    ensures fit_between { OnOk result (AreFit C.covers (length cells.now)
-        (map (λ c. fit_at c.place (C.recorded c.record.value) c.word) moved.new.between.items)) }
-    ensures fit_behind { OnOk result (AreFit C.covers (length cells.now)
-        (map (λ c. fit_at c.place (C.recorded c.record.value) c.word) moved.new.behind.items)) }
+        → AreGathered C.covers (λ n. C.recorded n.record.value) (λ n. n.word)
+        (λ c. change_at c.place (C.recorded c.record.value))
+        (λ c. fit_at c.place (C.recorded c.record.value) c.word)
+        old new from to (length cells.now)
+        moved.new.made moved.new.between.items moved.new.behind.items) }
     ensures noted { OnOk result ((old new : Book)
         → IsMoving old new from to (cells_of cells.now) (each_of C.recorded records.now)
         (world_in (C.given world.now))

@@ -306,7 +306,7 @@ impl<C: CellRunner> Schedule<C> {
             meter.old meter.new }
     {
         let mut state = self.begin(at, session);
-        let (before, world) = (&self.records[at], &self.world);
+        let (before, world) = (self.record_at(at), &self.world);
         match run_again::<C>(self.alloc, meter, source, before, world, at, &mut state) {
             Ok(()) => {}
             Err(refused) => {
@@ -330,7 +330,7 @@ impl<C: CellRunner> Schedule<C> {
         Ok(cell)
     }
 
-    /// Makes a session for the place, runs another cell over it, and sweeps over those behind.
+    /// Makes a session for the place, runs another cell over it, and sweeps over those behind. The places of those that ran are told.
     fn swept_with(
         &self,
         meter: &mut Meter,
@@ -352,7 +352,8 @@ impl<C: CellRunner> Schedule<C> {
             self.now.given)) n.place n.now n.memo) e.swept.noted.items) }
         ensures fresh { IfOk result (λ e. All (λ s. IsSnapshot (book_of self.now) s.place
             (C.kept_session s.version) (map C.change_of s.pending.items)) e.fresh.items) }
-        ensures ran { IfOk result (λ e. e.ran.items ≡ []) }
+        ensures ran { IfOk result (λ e. e.ran.items
+            ≡ map (λ c. shifted shifts.Stays c.place) e.swept.changed.items) }
         ensures counts { CountsStale (book_of self.now)
             (book_of (sheet (slice_set self.now.cells at (cell_of source.now)) self.now.given))
             meter.old meter.new }
@@ -360,7 +361,7 @@ impl<C: CellRunner> Schedule<C> {
         let Front { session, fresh } = self.front_before(at)?;
         let swept = self.swept(meter, at, source, session)?;
         let ran = Vec::new(self.alloc);
-        Ok(Edited { swept, fresh, ran })
+        tell_places::<C>(Edited { swept, fresh, ran }, Shift::Stays)
     }
 
     /// Gives the cell at the place another text, and returns the places of the cells that ran. It is refused for want of memory alone.
@@ -378,12 +379,11 @@ impl<C: CellRunner> Schedule<C> {
         ensures ran { IfOk result (λ v. AreStale (book_of self.old)
             (book_of (edited_sheet (Change at text.now) self.old)) v.items) }
     {
-        if text == self.cells[at].text.as_str() {
+        if text == self.text(at) {
             return Ok(Vec::new(self.alloc));
         }
         let cell = self.cell_with(at, text)?;
-        let swept = self.swept_with(meter, at, &cell)?;
-        let edited = tell_places::<C>(swept, Shift::Stays)?;
+        let edited = self.swept_with(meter, at, &cell)?;
         self.cells[at] = cell;
         let ran = take_over::<C>(
             self.alloc,
@@ -474,7 +474,7 @@ impl<C: CellRunner> Schedule<C> {
             (book_of (sheet (remove self.now.cells at) self.now.given)) meter.old meter.new }
     {
         let mut change = C::no_change(self.alloc);
-        C::went(&self.records[at], &session, &mut change)?;
+        C::went(self.record_at(at), &session, &mut change)?;
         let word = C::change_word(&change);
         let state = SweepState {
             change,
@@ -487,8 +487,8 @@ impl<C: CellRunner> Schedule<C> {
         self.swept_behind(meter, &self.world, at + 1, at, state)
     }
 
-    /// Sweeps over the cells behind one, without what that one did. Behind the last cell there is nothing to do, and no memory is
-    /// taken.
+    /// Sweeps over the cells behind one, without what that one did. The places of those that ran are told. Behind the last cell there is
+    /// nothing to do, and no memory is taken.
     fn swept_away(&self, meter: &mut Meter, at: usize) -> Result<Edited<C>, AllocError>
         requires { at < length self.now.cells }
         ensures changed { IfOk result (λ v. AreChanged (book_of self.now)
@@ -502,7 +502,8 @@ impl<C: CellRunner> Schedule<C> {
             n.place n.now n.memo) s.swept.noted.items) }
         ensures fresh { IfOk result (λ f. All (λ s. IsSnapshot (book_of self.now) s.place
             (C.kept_session s.version) (map C.change_of s.pending.items)) f.fresh.items) }
-        ensures ran { IfOk result (λ e. e.ran.items ≡ []) }
+        ensures ran { IfOk result (λ e. e.ran.items
+            ≡ map (λ c. shifted shifts.Earlier c.place) e.swept.changed.items) }
         ensures last { at + 1 ≡ length self.now.cells → IsOk result }
         ensures counts { CountsStale (book_of self.now)
             (book_of (sheet (remove self.now.cells at) self.now.given)) meter.old meter.new }
@@ -513,7 +514,7 @@ impl<C: CellRunner> Schedule<C> {
         let Front { session, fresh } = self.front_before(at)?;
         let swept = self.swept_without(meter, at, session)?;
         let ran = Vec::new(self.alloc);
-        Ok(Edited { swept, fresh, ran })
+        tell_places::<C>(Edited { swept, fresh, ran }, Shift::Earlier)
     }
 
     /// Takes the cell at the place out, and returns the places of the cells that ran. It is refused for want of memory alone, and at the
@@ -528,8 +529,7 @@ impl<C: CellRunner> Schedule<C> {
         ensures ran { IfOk result (λ v. AreStale (book_of self.old)
             (book_of (edited_sheet (Remove at) self.old)) v.items) }
     {
-        let swept = self.swept_away(meter, at)?;
-        let edited = tell_places::<C>(swept, Shift::Earlier)?;
+        let edited = self.swept_away(meter, at)?;
         let ran = take_over::<C>(
             self.alloc,
             &mut self.records,

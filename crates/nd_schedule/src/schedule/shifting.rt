@@ -1,11 +1,12 @@
 //! `move_cell`: moves a cell to another place, and sweeps over those around it.
 
-ghost use Rattle.std.specs.Prelude.{◌≡◌, ◌<◌, ◌-◌, ℕ, IfOk, IfSome, MatchOption, OnErr, OnOk};
+ghost use Rattle.std.specs.Prelude.{◌≡◌, ◌<◌, ◌-◌, ℕ, List, IfOk, IfSome, MatchOption, OnErr, OnOk};
 ghost use Rattle.std.specs.List.{All};
 ghost use Rattle.std.specs.Result.{IsOk};
 ghost use Rattle.std.specs.Prelude.{length, map, min, slice_index_or};
 ghost use Rattle.nd_model.specs.Book.Records as kept;
-ghost use Rattle.nd_model.specs.Book.Book.{Move};
+ghost use Rattle.nd_model.specs.Cells.Running.{World};
+ghost use Rattle.nd_model.specs.Book.Book.{Book, Cell, Move};
 ghost use Rattle.nd_model.specs.Book.Entries.{entry_at, record_at};
 ghost use Rattle.nd_model.specs.Book.Stale.{CountsStale, IsStale};
 ghost use Rattle.nd_model.specs.Book.Notebook.{book_of, edited_sheet};
@@ -13,11 +14,12 @@ ghost use Rattle.nd_change.specs.Steps.{IsWordOf};
 ghost use Rattle.nd_schedule.specs.Cells.Shared.{each_of};
 ghost use Rattle.nd_schedule.specs.Schedule.Ran.{AreStale};
 ghost use Rattle.nd_schedule.specs.Schedule.Snapshot.{IsNoted, StandsBefore};
-ghost use Rattle.nd_schedule.specs.Schedule.Sweep.{AreFit, AreMoved, AreWords, change_at, fit_at};
+ghost use Rattle.nd_schedule.specs.Schedule.Sweep.{AreFit, AreGathered, AreMoved, AreWords, IsKept, IsMoving, change_at, fit_at};
 
 use crate::cells::move_item;
 use crate::schedule::moving::{Moved, move_down, move_up};
 use crate::schedule::notebook::{Front, Schedule, install};
+use crate::schedule::noting::Noted;
 use crate::schedule::runner::CellRunner;
 use crate::schedule::snapshots::carry;
 use crate::schedule::sweep::{New, SweepState};
@@ -53,6 +55,50 @@ fn put_made<C: CellRunner>(
     }
 }
 
+/// Puts what the sweeps around a cell gathered in its places, moves the record and the word of that cell, and gives what was noted. It
+/// is never refused.
+fn take_moved<C: CellRunner>(
+    records: &mut Vec<Rc<C::Record>>,
+    words: &mut Vec<C::Word>,
+    moved: Moved<C>,
+    from: usize,
+    to: usize,
+) -> Vec<Noted<C>>
+    requires from { from < length records.old.items }
+    requires to { to < length records.old.items }
+    requires many { length words.old.items ≡ length records.old.items }
+    requires between { AreFit C.covers (length records.old.items)
+        (map (λ c. fit_at c.place (C.recorded c.record.value) c.word) moved.between.items) }
+    requires behind { AreFit C.covers (length records.old.items)
+        (map (λ c. fit_at c.place (C.recorded c.record.value) c.word) moved.behind.items) }
+    requires worded { IfSome moved.made
+        (λ n. IsWordOf C.covers n.word (C.recorded n.record.value)) }
+    ensures kept { (old new : Book) (cells : List Cell) (given : World)
+        → IsMoving old new from to cells (each_of C.recorded records.old.items) given
+        → AreMoved old new from to
+        (map (λ c. change_at c.place (C.recorded c.record.value)) moved.between.items)
+        (map (λ c. change_at c.place (C.recorded c.record.value)) moved.behind.items)
+        → MatchOption moved.made
+        (record_at old.world (entry_at old from) ≡ record_at new.world (entry_at new to))
+        (λ n. C.recorded n.record.value ≡ record_at new.world (entry_at new to))
+        → AreWords C.covers words.old.items (each_of C.recorded records.old.items)
+        → IsKept C.covers new (each_of C.recorded records.new.items) words.new.items }
+    ensures noted { result ≡ moved.noted }
+{
+    let Moved {
+        made,
+        between,
+        behind,
+        noted,
+    } = moved;
+    install::<C>(records, words, between);
+    install::<C>(records, words, behind);
+    put_made::<C>(records, words, from, made);
+    move_item(records, from, to);
+    move_item(words, from, to);
+    noted
+}
+
 /// What the sweeps around a cell gathered, where they came to their end. Their state is dropped.
 fn hand_on<C: CellRunner>(
     done: Result<(), AllocError>,
@@ -79,27 +125,12 @@ impl<C: CellRunner> Schedule<C> {
         requires to { to < length self.now.cells }
         requires other { ¬ (from ≡ to) }
         requires session { StandsBefore (book_of self.now) (min from to) (C.session_of session) }
-        ensures moved { IfOk result (λ m. AreMoved (book_of self.now)
-            (book_of (edited_sheet (Move from to) self.now)) from to
-            (map (λ c. change_at c.place (C.recorded c.record.value)) m.between.items)
-            (map (λ c. change_at c.place (C.recorded c.record.value)) m.behind.items)) }
-        ensures made { IfOk result (λ m. MatchOption m.made
-            (record_at (book_of self.now).world (entry_at (book_of self.now) from)
-            ≡ record_at (book_of self.now).world
-            (entry_at (book_of (edited_sheet (Move from to) self.now)) to))
-            (λ n. C.recorded n.record.value ≡ record_at (book_of self.now).world
-            (entry_at (book_of (edited_sheet (Move from to) self.now)) to))) }
-        ensures stale { IfOk result (λ m. MatchOption m.made
-            (¬ IsStale (book_of self.now) (book_of (edited_sheet (Move from to) self.now))
-            (entry_at (book_of (edited_sheet (Move from to) self.now)) to))
-            (λ _. IsStale (book_of self.now) (book_of (edited_sheet (Move from to) self.now))
-            (entry_at (book_of (edited_sheet (Move from to) self.now)) to))) }
-        ensures worded { IfOk result (λ m. IfSome m.made
-            (λ n. IsWordOf C.covers n.word (C.recorded n.record.value))) }
-        ensures fit_between { IfOk result (λ m. AreFit C.covers (length self.now.cells)
-            (map (λ c. fit_at c.place (C.recorded c.record.value) c.word) m.between.items)) }
-        ensures fit_behind { IfOk result (λ m. AreFit C.covers (length self.now.cells)
-            (map (λ c. fit_at c.place (C.recorded c.record.value) c.word) m.behind.items)) }
+        ensures gathered { IfOk result (λ m. AreGathered C.covers
+            (λ n. C.recorded n.record.value) (λ n. n.word)
+            (λ c. change_at c.place (C.recorded c.record.value))
+            (λ c. fit_at c.place (C.recorded c.record.value) c.word)
+            (book_of self.now) (book_of (edited_sheet (Move from to) self.now)) from to
+            (length self.now.cells) m.made m.between.items m.behind.items) }
         ensures noted { IfOk result (λ m. All (λ n. IsNoted C.change_of C.kept_session
             (book_of self.now) (book_of (edited_sheet (Move from to) self.now))
             n.place n.now n.memo) m.noted.items) }
@@ -172,13 +203,9 @@ impl<C: CellRunner> Schedule<C> {
                 return Err(refused);
             }
         }
-        install::<C>(&mut self.records, &mut self.words, moved.between);
-        install::<C>(&mut self.records, &mut self.words, moved.behind);
-        put_made::<C>(&mut self.records, &mut self.words, from, moved.made);
+        let noted = take_moved::<C>(&mut self.records, &mut self.words, moved, from, to);
         move_item(&mut self.cells, from, to);
-        move_item(&mut self.records, from, to);
-        move_item(&mut self.words, from, to);
-        carry::<C>(self.alloc, &mut self.snapshots, fresh, moved.noted, first);
+        carry::<C>(self.alloc, &mut self.snapshots, fresh, noted, first);
         Ok(ran)
     }
 }

@@ -2,6 +2,8 @@
 
 ghost use Rattle.std.specs.Prelude.{◌≡◌, ◌<◌, ◌≤◌, ◌+◌, ◌-◌, ℕ, IfOk, IfSome, IsTrue, OnOk, length, map, slice_index_or};
 ghost use Rattle.std.specs.List.{All};
+ghost use Rattle.nd_model.specs.Cells.Footprint.{HasNone, found, with_effects};
+ghost use Rattle.nd_model.specs.Cells.Running.{Key, World};
 ghost use Rattle.nd_model.specs.Book.Book.{Book, labels_of};
 ghost use Rattle.nd_model.specs.Book.Renaming.{AreDistinct};
 ghost use Rattle.nd_schedule.specs.Cells.Shared.{each_of};
@@ -169,6 +171,22 @@ pub(crate) fn nearest<C: CellRunner>(
     Ok((0, session, false))
 }
 
+/// Does to the session what a record that still holds says. After want of memory the session is only fit to be dropped.
+// proof: two clauses are cheaper to meet in a loop than the one of the trait.
+pub(crate) fn replay_one<C: CellRunner>(
+    made: &C::Record,
+    session: &mut C::Session,
+) -> Result<(), AllocError>
+    requires none { HasNone (C.recorded made.now).label (C.session_of session.old) }
+    requires reads { (i : World) × ((k : Key) → IsTrue ((C.recorded made.now).read k)
+        → (C.recorded made.now).values k ≡ Some (found (C.session_of session.old) i k)) }
+    ensures { OnOk result (C.session_of session.new
+        ≡ with_effects (C.recorded made.now).label (C.recorded made.now).effects
+        (C.session_of session.old)) }
+{
+    C::replay(made, session)
+}
+
 /// Replays the records of the cells from a place up to another.
 pub(crate) fn replay_between<C: CellRunner>(
     records: &[Rc<C::Record>],
@@ -185,7 +203,7 @@ pub(crate) fn replay_between<C: CellRunner>(
         → StandsBefore b to (C.session_of session.new)) }
 {
     for k in from..to {
-        C::replay(&records[k], session)?;
+        replay_one::<C>(&records[k], session)?;
     }
     Ok(())
 }

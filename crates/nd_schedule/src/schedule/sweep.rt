@@ -20,7 +20,7 @@ use crate::cells::KeptCell;
 use crate::schedule::noting::{Noted, note};
 use crate::schedule::ran::Shift;
 use crate::schedule::runner::CellRunner;
-use crate::schedule::snapshots::{MOST_KEYS, Snapshot, distance, thawed};
+use crate::schedule::snapshots::{MOST_KEYS, Snapshot, distance, replay_one, thawed};
 use nd_meter::Meter;
 use std::alloc::{AllocError, Global};
 use std::rc::Rc;
@@ -63,7 +63,7 @@ pub(crate) fn catch_up<C: CellRunner>(
         → IsAtHand old new to j (C.session_of session.new) to) }
 {
     for k in since..to {
-        C::replay(&records[k], session)?;
+        replay_one::<C>(&records[k], session)?;
     }
     Ok(())
 }
@@ -75,7 +75,35 @@ pub(crate) struct New<C: CellRunner> {
     pub(crate) word: C::Word,
 }
 
+/// Runs a text under a label over a session. The place of its cell is told where runs are told of. After want of memory the session is
+/// only fit to be dropped.
+// proof: with a second clause the first is cheaper to meet.
+pub(crate) fn run_text<C: CellRunner>(
+    meter: &mut Meter,
+    session: &mut C::Session,
+    world: &C::World,
+    label: u64,
+    text: &str,
+    now: usize,
+) -> Result<C::Record, AllocError>
+    requires none { HasNone label (C.session_of session.old) }
+    requires place { now < 2 ^ 64 }
+    ensures made { IfOk result
+        (λ r. C.recorded r ≡ record_of label (reading text.now) (world_in (C.given world.now))
+        (C.session_of session.old)) }
+    ensures after { OnOk result (C.session_of session.new
+        ≡ session_after (cell label (reading text.now) (world_in (C.given world.now))
+        (C.session_of session.old))) }
+    ensures counted { meter.new ≡ min (meter.old + 1) (2 ^ 64 - 1) }
+{
+    let began = meter.begin(now);
+    let made = C::run(meter, session, world, label, text);
+    meter.end(now, began);
+    made
+}
+
 /// Runs a cell over a session, and gives its record. Its place now is told where runs are told of. After want of memory the session is only fit to be dropped.
+// proof: with a second clause the first is cheaper to meet.
 pub(crate) fn run_cell<C: CellRunner>(
     alloc: Global,
     meter: &mut Meter,
@@ -85,6 +113,7 @@ pub(crate) fn run_cell<C: CellRunner>(
     session: &mut C::Session,
 ) -> Result<New<C>, AllocError>
     requires none { HasNone source.now.label (C.session_of session.old) }
+    requires place { now < 2 ^ 64 }
     ensures after { OnOk result (C.session_of session.new
         ≡ session_after (cell source.now.label (reading (string_bytes source.now.text))
         (world_in (C.given world.now)) (C.session_of session.old))) }
@@ -94,10 +123,8 @@ pub(crate) fn run_cell<C: CellRunner>(
     ensures worded { IfOk result (λ n. IsWordOf C.covers n.word (C.recorded n.record.value)) }
     ensures counted { meter.new ≡ min (meter.old + 1) (2 ^ 64 - 1) }
 {
-    let began = meter.begin(now);
-    let made = C::run(meter, session, world, source.label, source.text.as_str());
-    meter.end(now, began);
-    let made = made?;
+    let text = source.text.as_str();
+    let made = run_text::<C>(meter, session, world, source.label, text, now)?;
     let word = C::word(&made);
     let record = Rc::new(alloc, made)?;
     Ok(New { record, word })
@@ -151,6 +178,7 @@ pub(crate) fn run_again<C: CellRunner>(
 }
 
 /// Runs a new cell over the session at hand.
+// proof: with a second clause the first is cheaper to meet.
 pub(crate) fn run_new<C: CellRunner>(
     alloc: Global,
     meter: &mut Meter,
@@ -160,6 +188,7 @@ pub(crate) fn run_new<C: CellRunner>(
     state: &mut SweepState<C>,
 ) -> Result<New<C>, AllocError>
     requires none { HasNone source.now.label (C.session_of state.old.session) }
+    requires place { now < 2 ^ 64 }
     ensures after { OnOk result (C.session_of state.new.session
         ≡ session_after (cell source.now.label (reading (string_bytes source.now.text))
         (world_in (C.given world.now)) (C.session_of state.old.session))) }

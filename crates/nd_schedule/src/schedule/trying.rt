@@ -9,6 +9,7 @@ ghost use Rattle.nd_model.specs.Book.Stale.{counted};
 use crate::cells::fresh_label;
 use crate::schedule::notebook::Schedule;
 use crate::schedule::runner::CellRunner;
+use crate::schedule::sweep::run_text;
 use nd_meter::Meter;
 use std::alloc::AllocError;
 
@@ -30,9 +31,6 @@ impl<C: CellRunner> Schedule<C> {
     {
         let free = fresh_label(self.alloc, &self.cells, self.least)?;
         let mut session = self.session_like(at)?;
-        let began = meter.begin(at);
-        let made = C::run(meter, &mut session, &self.world, free.label, text);
-        meter.end(at, began);
-        made
+        run_text::<C>(meter, &mut session, &self.world, free.label, text, at)
     }
 }

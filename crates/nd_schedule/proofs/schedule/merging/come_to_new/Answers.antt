@@ -9,14 +9,12 @@ use Rattle.nd_schedule.proofs.schedule.merging.come_to_new.Goals as goal
 pub returns-in_err-catch_up-clause-counts : goal.returns-in_err-catch_up-clause-counts
 returns-in_err-catch_up-clause-counts g c = λ old new before next stale so_far. counts_same old new c.args.now before _ next.there so_far
 
-pub run_new-requires : goal.run_new-requires
-run_new-requires g c =
+pub run_new-requires-clause-none : goal.run_new-requires-clause-none
+run_new-requires-clause-none g c =
     let old : Book = c.requires.at.0 in
     let new : Book = c.requires.at.1 in
-    record {
-      none = next_none old new c.args.i c.args.now _ _ _ c.requires.at.2 (g.C.CellRunner.session_of c.catch_up.new.session)
-          (c.in_ok-catch_up.ensures old new c.args.now (c.requires.at.2).run (c.requires.at.2).place (c.requires.at.3).hand);
-    }
+    next_none old new c.args.i c.args.now _ _ _ c.requires.at.2 (g.C.CellRunner.session_of c.catch_up.new.session)
+    (c.in_ok-catch_up.ensures old new c.args.now (c.requires.at.2).run (c.requires.at.2).place (c.requires.at.3).hand)
 
 pub returns-in_err-record-clause-counts : goal.returns-in_err-record-clause-counts
 returns-in_err-record-clause-counts g c = λ old new before next stale so_far. next_counts old new c.args.i c.args.now _ (cell_of c.args.source.now) _ next before _ _ stale so_far c.run_new.ensures.counted

@@ -11,14 +11,12 @@ use Rattle.nd_schedule.proofs.schedule.merging.run_there.Goals as goal
 pub returns-in_err-catch_up-clause-counts : goal.returns-in_err-catch_up-clause-counts
 returns-in_err-catch_up-clause-counts g c = λ old new before next stale so_far. counts_same old new c.args.now before _ next.there so_far
 
-pub run_cell-requires : goal.run_cell-requires
-run_cell-requires g c =
+pub run_cell-requires-clause-none : goal.run_cell-requires-clause-none
+run_cell-requires-clause-none g c =
     let old : Book = c.requires.at.0 in
     let new : Book = c.requires.at.1 in
-    record {
-      none = next_none old new c.args.i c.args.now _ _ _ c.requires.at.2 (g.C.CellRunner.session_of c.catch_up.new.session)
-          (c.in_ok-catch_up.ensures old new c.args.now (c.requires.at.2).run (c.requires.at.2).place (c.requires.at.3).hand);
-    }
+    next_none old new c.args.i c.args.now _ _ _ c.requires.at.2 (g.C.CellRunner.session_of c.catch_up.new.session)
+    (c.in_ok-catch_up.ensures old new c.args.now (c.requires.at.2).run (c.requires.at.2).place (c.requires.at.3).hand)
 
 pub returns-in_err-new-clause-counts : goal.returns-in_err-new-clause-counts
 returns-in_err-new-clause-counts g c = λ old new before next stale so_far. next_counts old new c.args.i c.args.now _ (cell_of c.args.source.now) _ next before _ _ stale so_far c.run_cell.ensures.counted

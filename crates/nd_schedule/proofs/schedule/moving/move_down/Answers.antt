@@ -136,8 +136,8 @@ returns-clause-counts g c = λ old new moving at.
     let with_it = c.enter.ensures.counts old new c.args.from c.args.to c.args.meter.now come there so_far in
     c.sweep-2.ensures.counts old new (c.args.to + 1) _ rest come_in with_it
 
-pub returns-clause-moved : goal.returns-clause-moved
-returns-clause-moved g c = λ old new moving at.
+pub returns-clause-gathered : goal.returns-clause-gathered
+returns-clause-gathered g c = λ old new moving at.
     let long : length old.cells ≡ length c.args.cells.now = ap length moving.cells ∙ length-map c.args.cells.now (λ s. cell_of s.value) in
     let place : IsPlace old new c.args.from c.args.from = place_at old new c.args.from c.args.to _ _ _ moving c.args.from c.args.from (from_within old new c.args.from c.args.to _ _ _ moving) (from_within old new c.args.from c.args.to _ _ _ moving) in
     let left : IsAt old new (c.args.from + 1) c.args.from (g.C.CellRunner.change_of c.leave.new.state.change) (g.C.CellRunner.session_of c.leave.new.state.session) c.leave.new.state.since =
@@ -158,39 +158,22 @@ returns-clause-moved g c = λ old new moving at.
     let second : AreChanged old new (c.args.to + 1) (c.args.to + 1) (length c.args.cells.now) (map (λ c'. change_at c'.place (g.C.CellRunner.recorded c'.record.value)) c.sweep-2.new.state.changed.items) =
     c.in_ok-sweep-2.ensures.changed old new (c.args.to + 1) (c.args.to + 1) (c.args.to + 1) rest come_in (omega arith) (same_place (c.args.to + 1) (c.args.to + 1))
     (subst (λ xs. AreChanged old new (c.args.to + 1) (c.args.to + 1) (c.args.to + 1) (map (λ c'. change_at c'.place (g.C.CellRunner.recorded c'.record.value)) xs)) (sym (c.in_ok-made.ensures.changed ∙ ap (λ v. v.items) c.swap.ensures.y_after ∙ c.requires.between)) (changed_none old new (c.args.to + 1) (c.args.to + 1))) in
-    moved_down old new c.args.from c.args.to _ _ _ moving (map (λ c'. change_at c'.place (g.C.CellRunner.recorded c'.record.value)) c.keep_made.new.self.between.items) (map (λ c'. change_at c'.place (g.C.CellRunner.recorded c'.record.value)) c.swap-2.new.x.items) c.requires.down
-    (subst (λ v. AreChanged old new (c.args.from + 1) c.args.from (c.args.to + 1) (map (λ c'. change_at c'.place (g.C.CellRunner.recorded c'.record.value)) v.items)) (sym (c.keep_made.ensures.between ∙ c.swap.ensures.x_after)) first)
-    (subst (λ n. AreChanged old new (c.args.to + 1) (c.args.to + 1) n (map (λ c'. change_at c'.place (g.C.CellRunner.recorded c'.record.value)) c.swap-2.new.x.items)) (sym long) (subst (λ v. AreChanged old new (c.args.to + 1) (c.args.to + 1) (length c.args.cells.now) (map (λ c'. change_at c'.place (g.C.CellRunner.recorded c'.record.value)) v.items)) (sym c.swap-2.ensures.x_after) second))
-
-pub returns-clause-made : goal.returns-clause-made
-returns-clause-made g c = λ old new moving at.
-    let long : length old.cells ≡ length c.args.cells.now = ap length moving.cells ∙ length-map c.args.cells.now (λ s. cell_of s.value) in
-    let place : IsPlace old new c.args.from c.args.from = place_at old new c.args.from c.args.to _ _ _ moving c.args.from c.args.from (from_within old new c.args.from c.args.to _ _ _ moving) (from_within old new c.args.from c.args.to _ _ _ moving) in
-    let left : IsAt old new (c.args.from + 1) c.args.from (g.C.CellRunner.change_of c.leave.new.state.change) (g.C.CellRunner.session_of c.leave.new.state.session) c.leave.new.state.since =
-    c.in_ok-leave.ensures.at old new c.args.from moving.run place at in
-    let frame = frame_down old new c.args.from c.args.to _ _ _ moving c.requires.down in
-    let there : IsAt old new (c.args.to + 1) c.args.to (g.C.CellRunner.change_of c.sweep.new.state.change) (g.C.CellRunner.session_of c.sweep.new.state.session) c.sweep.new.state.since =
-    subst (λ k. IsAt old new (c.args.to + 1) k (g.C.CellRunner.change_of c.sweep.new.state.change) (g.C.CellRunner.session_of c.sweep.new.state.session) c.sweep.new.state.since) (down_place c.args.from c.args.to c.requires.down)
-    (c.in_ok-sweep.ensures.at old new c.args.from frame left) in
-    let come : IsComing old new c.args.from (c.args.to + 1) c.args.to _ (cell_of c.deref.result.now) (g.C.CellRunner.recorded c.deref-2.result.now) _ =
-    coming old new c.args.from c.args.to _ _ _ moving (c.args.to + 1) (to_next old new c.args.from c.args.to _ _ _ moving) (cell_of c.deref.result.now) (g.C.CellRunner.recorded c.deref-2.result.now)
-    (cell_there c.args.cells.now c.args.from c.index-cells-from.result c.deref.result.now (subst (λ n. c.args.from < n) long moving.stood) c.index-cells-from.is c.deref.ensures)
-    (ap g.C.CellRunner.recorded c.deref-2.ensures ∙ record_there (λ r. g.C.CellRunner.recorded r.value) old c.args.records.now c.index-records-from.result c.args.from moving.run.records moving.stood c.index-records-from.is) in
-    subst (λ o. MatchOption o (record_at old.world (entry_at old c.args.from) ≡ record_at new.world (entry_at new c.args.to)) (λ n. g.C.CellRunner.recorded n.record.value ≡ record_at new.world (entry_at new c.args.to))) (sym c.keep_made.ensures.made)
-    (made_there (λ n. g.C.CellRunner.recorded n.record.value) c.in_ok-made.made (g.C.CellRunner.recorded c.deref-2.result.now) (record_at old.world (entry_at old c.args.from)) (record_at new.world (entry_at new c.args.to)) come.made
-    (c.in_ok-made.ensures.made old new c.args.from c.args.to come there))
-
-pub returns-clause-fit_between : goal.returns-clause-fit_between
-returns-clause-fit_between g c =
-    subst (λ v. AreFit g.C.CellRunner.covers (length c.args.cells.now) (map (λ c'. fit_at c'.place (g.C.CellRunner.recorded c'.record.value) c'.word) v.items)) (sym (c.keep_made.ensures.between ∙ c.swap.ensures.x_after))
-    (c.in_ok-sweep.ensures.fit (length c.args.cells.now) (omega (arith, c.requires.to))
-    (subst (λ xs. AreFit g.C.CellRunner.covers (length c.args.cells.now) (map (λ c'. fit_at c'.place (g.C.CellRunner.recorded c'.record.value) c'.word) xs)) (sym (c.in_ok-leave.ensures.changed ∙ c.requires.changed)) tt))
-
-pub returns-clause-fit_behind : goal.returns-clause-fit_behind
-returns-clause-fit_behind g c =
-    subst (λ v. AreFit g.C.CellRunner.covers (length c.args.cells.now) (map (λ c'. fit_at c'.place (g.C.CellRunner.recorded c'.record.value) c'.word) v.items)) (sym c.swap-2.ensures.x_after)
-    (c.in_ok-sweep-2.ensures.fit (length c.args.cells.now) (omega arith)
-    (subst (λ xs. AreFit g.C.CellRunner.covers (length c.args.cells.now) (map (λ c'. fit_at c'.place (g.C.CellRunner.recorded c'.record.value) c'.word) xs)) (sym (c.in_ok-made.ensures.changed ∙ ap (λ v. v.items) c.swap.ensures.y_after ∙ c.requires.between)) tt))
+    record {
+      moved = moved_down old new c.args.from c.args.to _ _ _ moving (map (λ c'. change_at c'.place (g.C.CellRunner.recorded c'.record.value)) c.keep_made.new.self.between.items) (map (λ c'. change_at c'.place (g.C.CellRunner.recorded c'.record.value)) c.swap-2.new.x.items) c.requires.down
+          (subst (λ v. AreChanged old new (c.args.from + 1) c.args.from (c.args.to + 1) (map (λ c'. change_at c'.place (g.C.CellRunner.recorded c'.record.value)) v.items)) (sym (c.keep_made.ensures.between ∙ c.swap.ensures.x_after)) first)
+          (subst (λ n. AreChanged old new (c.args.to + 1) (c.args.to + 1) n (map (λ c'. change_at c'.place (g.C.CellRunner.recorded c'.record.value)) c.swap-2.new.x.items)) (sym long) (subst (λ v. AreChanged old new (c.args.to + 1) (c.args.to + 1) (length c.args.cells.now) (map (λ c'. change_at c'.place (g.C.CellRunner.recorded c'.record.value)) v.items)) (sym c.swap-2.ensures.x_after) second));
+      made = subst (λ o. MatchOption o (record_at old.world (entry_at old c.args.from) ≡ record_at new.world (entry_at new c.args.to)) (λ n. g.C.CellRunner.recorded n.record.value ≡ record_at new.world (entry_at new c.args.to))) (sym c.keep_made.ensures.made)
+          (made_there (λ n. g.C.CellRunner.recorded n.record.value) c.in_ok-made.made (g.C.CellRunner.recorded c.deref-2.result.now) (record_at old.world (entry_at old c.args.from)) (record_at new.world (entry_at new c.args.to)) come.made
+          (c.in_ok-made.ensures.made old new c.args.from c.args.to come there));
+      stale = subst (λ o. MatchOption o (¬ IsStale old new (entry_at new c.args.to)) (λ _. IsStale old new (entry_at new c.args.to))) (sym c.keep_made.ensures.made) (c.in_ok-made.ensures.stale old new c.args.from c.args.to come there);
+      worded = subst (λ o. IfSome o (λ n. IsWordOf g.C.CellRunner.covers n.word (g.C.CellRunner.recorded n.record.value))) (sym c.keep_made.ensures.made) c.in_ok-made.ensures.worded;
+      fit_between = subst (λ v. AreFit g.C.CellRunner.covers (length c.args.cells.now) (map (λ c'. fit_at c'.place (g.C.CellRunner.recorded c'.record.value) c'.word) v.items)) (sym (c.keep_made.ensures.between ∙ c.swap.ensures.x_after))
+          (c.in_ok-sweep.ensures.fit (length c.args.cells.now) (omega (arith, c.requires.to))
+          (subst (λ xs. AreFit g.C.CellRunner.covers (length c.args.cells.now) (map (λ c'. fit_at c'.place (g.C.CellRunner.recorded c'.record.value) c'.word) xs)) (sym (c.in_ok-leave.ensures.changed ∙ c.requires.changed)) tt));
+      fit_behind = subst (λ v. AreFit g.C.CellRunner.covers (length c.args.cells.now) (map (λ c'. fit_at c'.place (g.C.CellRunner.recorded c'.record.value) c'.word) v.items)) (sym c.swap-2.ensures.x_after)
+          (c.in_ok-sweep-2.ensures.fit (length c.args.cells.now) (omega arith)
+          (subst (λ xs. AreFit g.C.CellRunner.covers (length c.args.cells.now) (map (λ c'. fit_at c'.place (g.C.CellRunner.recorded c'.record.value) c'.word) xs)) (sym (c.in_ok-made.ensures.changed ∙ ap (λ v. v.items) c.swap.ensures.y_after ∙ c.requires.between)) tt));
+    }
 
 pub returns-clause-noted : goal.returns-clause-noted
 returns-clause-noted g c = λ old new moving at.
@@ -254,9 +237,6 @@ overflow_add-to-3 g c = grind (arith, common_steps)
 pub overflow_add-to-4 : goal.overflow_add-to-4
 overflow_add-to-4 g c = grind (arith, common_steps)
 
-pub returns-clause-worded : goal.returns-clause-worded
-returns-clause-worded g c = subst (λ o. IfSome o (λ n. IsWordOf g.C.CellRunner.covers n.word (g.C.CellRunner.recorded n.record.value))) (sym c.keep_made.ensures.made) c.in_ok-made.ensures.worded
-
 pub returns-in_err-leave-clause-counts : goal.returns-in_err-leave-clause-counts
 returns-in_err-leave-clause-counts g c = λ old new moving at. counts_stale old new 0 c.args.meter.now c.args.meter.now (none_yet old new 0 c.args.meter.now)
 
@@ -307,19 +287,3 @@ sweep-requires-clause-records g c = grind (arith, common_steps)
 
 pub sweep-requires-clause-words : goal.sweep-requires-clause-words
 sweep-requires-clause-words g c = c.requires.words
-
-pub returns-clause-stale : goal.returns-clause-stale
-returns-clause-stale g c = λ old new moving at.
-    let long : length old.cells ≡ length c.args.cells.now = ap length moving.cells ∙ length-map c.args.cells.now (λ s. cell_of s.value) in
-    let place : IsPlace old new c.args.from c.args.from = place_at old new c.args.from c.args.to _ _ _ moving c.args.from c.args.from (from_within old new c.args.from c.args.to _ _ _ moving) (from_within old new c.args.from c.args.to _ _ _ moving) in
-    let left : IsAt old new (c.args.from + 1) c.args.from (g.C.CellRunner.change_of c.leave.new.state.change) (g.C.CellRunner.session_of c.leave.new.state.session) c.leave.new.state.since =
-    c.in_ok-leave.ensures.at old new c.args.from moving.run place at in
-    let frame = frame_down old new c.args.from c.args.to _ _ _ moving c.requires.down in
-    let there : IsAt old new (c.args.to + 1) c.args.to (g.C.CellRunner.change_of c.sweep.new.state.change) (g.C.CellRunner.session_of c.sweep.new.state.session) c.sweep.new.state.since =
-    subst (λ k. IsAt old new (c.args.to + 1) k (g.C.CellRunner.change_of c.sweep.new.state.change) (g.C.CellRunner.session_of c.sweep.new.state.session) c.sweep.new.state.since) (down_place c.args.from c.args.to c.requires.down)
-    (c.in_ok-sweep.ensures.at old new c.args.from frame left) in
-    let come : IsComing old new c.args.from (c.args.to + 1) c.args.to _ (cell_of c.deref.result.now) (g.C.CellRunner.recorded c.deref-2.result.now) _ =
-    coming old new c.args.from c.args.to _ _ _ moving (c.args.to + 1) (to_next old new c.args.from c.args.to _ _ _ moving) (cell_of c.deref.result.now) (g.C.CellRunner.recorded c.deref-2.result.now)
-    (cell_there c.args.cells.now c.args.from c.index-cells-from.result c.deref.result.now (subst (λ n. c.args.from < n) long moving.stood) c.index-cells-from.is c.deref.ensures)
-    (ap g.C.CellRunner.recorded c.deref-2.ensures ∙ record_there (λ r. g.C.CellRunner.recorded r.value) old c.args.records.now c.index-records-from.result c.args.from moving.run.records moving.stood c.index-records-from.is) in
-    subst (λ o. MatchOption o (¬ IsStale old new (entry_at new c.args.to)) (λ _. IsStale old new (entry_at new c.args.to))) (sym c.keep_made.ensures.made) (c.in_ok-made.ensures.stale old new c.args.from c.args.to come there)

@@ -163,8 +163,8 @@ returns-clause-counts g c = λ old new moving at.
     let so_far = subst (λ k. CountsFront old new k c.args.meter.now c.sweep.new.meter) (up_place c.args.from c.args.to c.requires.up) (c.in_ok-sweep.ensures.counted old new (c.args.to + 1) c.args.meter.now frame come_in with_it) in
     c.sweep-2.ensures.counts old new (c.args.from + 1) _ rest left so_far
 
-pub returns-clause-moved : goal.returns-clause-moved
-returns-clause-moved g c = λ old new moving at.
+pub returns-clause-gathered : goal.returns-clause-gathered
+returns-clause-gathered g c = λ old new moving at.
     let long : length old.cells ≡ length c.args.cells.now = ap length moving.cells ∙ length-map c.args.cells.now (λ s. cell_of s.value) in
     let come : IsComing old new c.args.from (c.args.to) c.args.to _ (cell_of c.deref.result.now) (g.C.CellRunner.recorded c.deref-2.result.now) _ =
     coming old new c.args.from c.args.to _ _ _ moving (c.args.to) (to_within old new c.args.from c.args.to _ _ _ moving) (cell_of c.deref.result.now) (g.C.CellRunner.recorded c.deref-2.result.now)
@@ -185,32 +185,22 @@ returns-clause-moved g c = λ old new moving at.
     let second : AreChanged old new (c.args.from + 1) (c.args.from + 1) (length c.args.cells.now) (map (λ c'. change_at c'.place (g.C.CellRunner.recorded c'.record.value)) c.sweep-2.new.state.changed.items) =
     c.in_ok-sweep-2.ensures.changed old new (c.args.from + 1) (c.args.from + 1) (c.args.from + 1) rest left (omega arith) (same_place (c.args.from + 1) (c.args.from + 1))
     (subst (λ xs. AreChanged old new (c.args.from + 1) (c.args.from + 1) (c.args.from + 1) (map (λ c'. change_at c'.place (g.C.CellRunner.recorded c'.record.value)) xs)) (sym (c.in_ok-leave.ensures.changed ∙ ap (λ v. v.items) (c.swap.ensures.y_after ∙ c.keep_made.ensures.between) ∙ c.requires.between)) (changed_none old new (c.args.from + 1) (c.args.from + 1))) in
-    moved_up old new c.args.from c.args.to _ _ _ moving (map (λ c'. change_at c'.place (g.C.CellRunner.recorded c'.record.value)) c.swap.new.x.items) (map (λ c'. change_at c'.place (g.C.CellRunner.recorded c'.record.value)) c.swap-2.new.x.items) c.requires.up
-    (subst (λ v. AreChanged old new c.args.to (c.args.to + 1) c.args.from (map (λ c'. change_at c'.place (g.C.CellRunner.recorded c'.record.value)) v.items)) (sym c.swap.ensures.x_after) first)
-    (subst (λ n. AreChanged old new (c.args.from + 1) (c.args.from + 1) n (map (λ c'. change_at c'.place (g.C.CellRunner.recorded c'.record.value)) c.swap-2.new.x.items)) (sym long) (subst (λ v. AreChanged old new (c.args.from + 1) (c.args.from + 1) (length c.args.cells.now) (map (λ c'. change_at c'.place (g.C.CellRunner.recorded c'.record.value)) v.items)) (sym c.swap-2.ensures.x_after) second))
-
-pub returns-clause-made : goal.returns-clause-made
-returns-clause-made g c = λ old new moving at.
-    let long : length old.cells ≡ length c.args.cells.now = ap length moving.cells ∙ length-map c.args.cells.now (λ s. cell_of s.value) in
-    let come : IsComing old new c.args.from (c.args.to) c.args.to _ (cell_of c.deref.result.now) (g.C.CellRunner.recorded c.deref-2.result.now) _ =
-    coming old new c.args.from c.args.to _ _ _ moving (c.args.to) (to_within old new c.args.from c.args.to _ _ _ moving) (cell_of c.deref.result.now) (g.C.CellRunner.recorded c.deref-2.result.now)
-    (cell_there c.args.cells.now c.args.from c.index-cells-from.result c.deref.result.now (subst (λ n. c.args.from < n) long moving.stood) c.index-cells-from.is c.deref.ensures)
-    (ap g.C.CellRunner.recorded c.deref-2.ensures ∙ record_there (λ r. g.C.CellRunner.recorded r.value) old c.args.records.now c.index-records-from.result c.args.from moving.run.records moving.stood c.index-records-from.is) in
-    subst (λ o. MatchOption o (record_at old.world (entry_at old c.args.from) ≡ record_at new.world (entry_at new c.args.to)) (λ n. g.C.CellRunner.recorded n.record.value ≡ record_at new.world (entry_at new c.args.to))) (sym c.keep_made.ensures.made)
-    (made_there (λ n. g.C.CellRunner.recorded n.record.value) c.in_ok-made.made (g.C.CellRunner.recorded c.deref-2.result.now) (record_at old.world (entry_at old c.args.from)) (record_at new.world (entry_at new c.args.to)) come.made
-    (c.in_ok-made.ensures.made old new c.args.from c.args.to come at))
-
-pub returns-clause-fit_between : goal.returns-clause-fit_between
-returns-clause-fit_between g c =
-    subst (λ v. AreFit g.C.CellRunner.covers (length c.args.cells.now) (map (λ c'. fit_at c'.place (g.C.CellRunner.recorded c'.record.value) c'.word) v.items)) (sym c.swap.ensures.x_after)
-    (c.in_ok-sweep.ensures.fit (length c.args.cells.now) (omega (arith, c.requires.from))
-    (subst (λ xs. AreFit g.C.CellRunner.covers (length c.args.cells.now) (map (λ c'. fit_at c'.place (g.C.CellRunner.recorded c'.record.value) c'.word) xs)) (sym (c.in_ok-made.ensures.changed ∙ c.requires.changed)) tt))
-
-pub returns-clause-fit_behind : goal.returns-clause-fit_behind
-returns-clause-fit_behind g c =
-    subst (λ v. AreFit g.C.CellRunner.covers (length c.args.cells.now) (map (λ c'. fit_at c'.place (g.C.CellRunner.recorded c'.record.value) c'.word) v.items)) (sym c.swap-2.ensures.x_after)
-    (c.in_ok-sweep-2.ensures.fit (length c.args.cells.now) (omega arith)
-    (subst (λ xs. AreFit g.C.CellRunner.covers (length c.args.cells.now) (map (λ c'. fit_at c'.place (g.C.CellRunner.recorded c'.record.value) c'.word) xs)) (sym (c.in_ok-leave.ensures.changed ∙ ap (λ v. v.items) (c.swap.ensures.y_after ∙ c.keep_made.ensures.between) ∙ c.requires.between)) tt))
+    record {
+      moved = moved_up old new c.args.from c.args.to _ _ _ moving (map (λ c'. change_at c'.place (g.C.CellRunner.recorded c'.record.value)) c.swap.new.x.items) (map (λ c'. change_at c'.place (g.C.CellRunner.recorded c'.record.value)) c.swap-2.new.x.items) c.requires.up
+          (subst (λ v. AreChanged old new c.args.to (c.args.to + 1) c.args.from (map (λ c'. change_at c'.place (g.C.CellRunner.recorded c'.record.value)) v.items)) (sym c.swap.ensures.x_after) first)
+          (subst (λ n. AreChanged old new (c.args.from + 1) (c.args.from + 1) n (map (λ c'. change_at c'.place (g.C.CellRunner.recorded c'.record.value)) c.swap-2.new.x.items)) (sym long) (subst (λ v. AreChanged old new (c.args.from + 1) (c.args.from + 1) (length c.args.cells.now) (map (λ c'. change_at c'.place (g.C.CellRunner.recorded c'.record.value)) v.items)) (sym c.swap-2.ensures.x_after) second));
+      made = subst (λ o. MatchOption o (record_at old.world (entry_at old c.args.from) ≡ record_at new.world (entry_at new c.args.to)) (λ n. g.C.CellRunner.recorded n.record.value ≡ record_at new.world (entry_at new c.args.to))) (sym c.keep_made.ensures.made)
+          (made_there (λ n. g.C.CellRunner.recorded n.record.value) c.in_ok-made.made (g.C.CellRunner.recorded c.deref-2.result.now) (record_at old.world (entry_at old c.args.from)) (record_at new.world (entry_at new c.args.to)) come.made
+          (c.in_ok-made.ensures.made old new c.args.from c.args.to come at));
+      stale = subst (λ o. MatchOption o (¬ IsStale old new (entry_at new c.args.to)) (λ _. IsStale old new (entry_at new c.args.to))) (sym c.keep_made.ensures.made) (c.in_ok-made.ensures.stale old new c.args.from c.args.to come at);
+      worded = subst (λ o. IfSome o (λ n. IsWordOf g.C.CellRunner.covers n.word (g.C.CellRunner.recorded n.record.value))) (sym c.keep_made.ensures.made) c.in_ok-made.ensures.worded;
+      fit_between = subst (λ v. AreFit g.C.CellRunner.covers (length c.args.cells.now) (map (λ c'. fit_at c'.place (g.C.CellRunner.recorded c'.record.value) c'.word) v.items)) (sym c.swap.ensures.x_after)
+          (c.in_ok-sweep.ensures.fit (length c.args.cells.now) (omega (arith, c.requires.from))
+          (subst (λ xs. AreFit g.C.CellRunner.covers (length c.args.cells.now) (map (λ c'. fit_at c'.place (g.C.CellRunner.recorded c'.record.value) c'.word) xs)) (sym (c.in_ok-made.ensures.changed ∙ c.requires.changed)) tt));
+      fit_behind = subst (λ v. AreFit g.C.CellRunner.covers (length c.args.cells.now) (map (λ c'. fit_at c'.place (g.C.CellRunner.recorded c'.record.value) c'.word) v.items)) (sym c.swap-2.ensures.x_after)
+          (c.in_ok-sweep-2.ensures.fit (length c.args.cells.now) (omega arith)
+          (subst (λ xs. AreFit g.C.CellRunner.covers (length c.args.cells.now) (map (λ c'. fit_at c'.place (g.C.CellRunner.recorded c'.record.value) c'.word) xs)) (sym (c.in_ok-leave.ensures.changed ∙ ap (λ v. v.items) (c.swap.ensures.y_after ∙ c.keep_made.ensures.between) ∙ c.requires.between)) tt));
+    }
 
 pub returns-clause-noted : goal.returns-clause-noted
 returns-clause-noted g c = λ old new moving at.
@@ -260,9 +250,6 @@ overflow_add-from-2 g c = grind (arith, common_steps)
 pub overflow_add-to : goal.overflow_add-to
 overflow_add-to g c = grind (arith, common_steps)
 
-pub returns-clause-worded : goal.returns-clause-worded
-returns-clause-worded g c = subst (λ o. IfSome o (λ n. IsWordOf g.C.CellRunner.covers n.word (g.C.CellRunner.recorded n.record.value))) (sym c.keep_made.ensures.made) c.in_ok-made.ensures.worded
-
 pub sweep-requires-2-clause-cells : goal.sweep-requires-2-clause-cells
 sweep-requires-2-clause-cells g c = grind (arith, common_steps)
 
@@ -310,12 +297,3 @@ sweep-requires-clause-records g c = grind (arith, common_steps)
 
 pub sweep-requires-clause-words : goal.sweep-requires-clause-words
 sweep-requires-clause-words g c = c.requires.words
-
-pub returns-clause-stale : goal.returns-clause-stale
-returns-clause-stale g c = λ old new moving at.
-    let long : length old.cells ≡ length c.args.cells.now = ap length moving.cells ∙ length-map c.args.cells.now (λ s. cell_of s.value) in
-    let come : IsComing old new c.args.from (c.args.to) c.args.to _ (cell_of c.deref.result.now) (g.C.CellRunner.recorded c.deref-2.result.now) _ =
-    coming old new c.args.from c.args.to _ _ _ moving (c.args.to) (to_within old new c.args.from c.args.to _ _ _ moving) (cell_of c.deref.result.now) (g.C.CellRunner.recorded c.deref-2.result.now)
-    (cell_there c.args.cells.now c.args.from c.index-cells-from.result c.deref.result.now (subst (λ n. c.args.from < n) long moving.stood) c.index-cells-from.is c.deref.ensures)
-    (ap g.C.CellRunner.recorded c.deref-2.ensures ∙ record_there (λ r. g.C.CellRunner.recorded r.value) old c.args.records.now c.index-records-from.result c.args.from moving.run.records moving.stood c.index-records-from.is) in
-    subst (λ o. MatchOption o (¬ IsStale old new (entry_at new c.args.to)) (λ _. IsStale old new (entry_at new c.args.to))) (sym c.keep_made.ensures.made) (c.in_ok-made.ensures.stale old new c.args.from c.args.to come at)

@@ -1,5 +1,4 @@
-use Rattle.std.proofs.lemmas.Grind.{common_steps}
-use Rattle.std.proofs.Common.{arith, ◌≡◌, false, true, refl, subst, ◌∙◌, inl, inr, string_bytes}
+use Rattle.std.proofs.Common.{◌≡◌, false, true, refl, subst, ◌∙◌, inl, inr, string_bytes}
 use Rattle.nd_model.specs.Grammar.Reading.{reading}
 use Rattle.nd_model.proofs.Passing.{stands}
 use Rattle.nd_change.specs.Steps.{Comes}
@@ -72,9 +71,3 @@ returns-then-still_holds-clause-held g c = c.if-still_holds.ensures.0 refl
 
 pub returns-clause-held : goal.returns-clause-held
 returns-clause-held g c = λ h. let e : false ≡ true = c.if-still_holds.ensures.1 h in cc
-
-pub still_holds-requires : goal.still_holds-requires
-still_holds-requires g c = grind (arith, common_steps)
-
-pub run_new-requires : goal.run_new-requires
-run_new-requires g c = grind (arith, common_steps)

@@ -1,5 +1,6 @@
 use Rattle.std.proofs.Common.{map, arith}
 use Rattle.std.proofs.lemmas.Grind.{common_steps}
+use Rattle.std.proofs.lemmas.List.Elements.{All-set}
 use Rattle.nd_schedule.specs.Schedule.Snapshot.{IsSnapshot}
 use Rattle.nd_schedule.proofs.schedule.Standing.{All-inserted, kept_in_front}
 use Rattle.nd_schedule.proofs.schedule.snapshots.put_in_front.Goals as goal
@@ -35,3 +36,8 @@ overflow_sub-behind-then-index-snapshot-2 g c = grind (arith, common_steps)
 
 pub returns-then-snapshot-front : goal.returns-then-snapshot-front
 returns-then-snapshot-front g c = grind (arith, common_steps)
+
+pub returns-then-index-snapshot : goal.returns-then-index-snapshot
+returns-then-index-snapshot g c = λ old new behind one all.
+    All-set (λ s. IsSnapshot new s.place (g.C.CellRunner.kept_session s.version) (map g.C.CellRunner.change_of s.pending.items)) _ _ _
+    (kept_in_front old new c.args.front c.args.snapshot.place _ _ behind (omega arith) one) all

@@ -1,5 +1,7 @@
-use Rattle.std.proofs.Common.{arith}
+use Rattle.std.proofs.Common.{◌-◌, length, length-take-le, map, sym, ap, arith}
 use Rattle.std.proofs.lemmas.Grind.{common_steps}
+use Rattle.nd_schedule.specs.Schedule.Snapshot.{IsSnapshot}
+use Rattle.nd_schedule.proofs.schedule.Standing.{All-remove, kept_lists}
 use Rattle.nd_schedule.proofs.schedule.snapshots.take_out.Goals as goal
 
 pub index-requires : goal.index-requires
@@ -34,3 +36,11 @@ returns-then-is_empty-clause-snapshots g c = grind (arith, common_steps)
 
 pub returns-then-is_empty-clause-taken : goal.returns-then-is_empty-clause-taken
 returns-then-is_empty-clause-taken g c = grind (arith, common_steps)
+
+pub returns-clause-snapshots : goal.returns-clause-snapshots
+returns-clause-snapshots g c = λ b all.
+    kept_lists (λ s. IsSnapshot b s.place (g.C.CellRunner.kept_session s.version) (map g.C.CellRunner.change_of s.pending.items)) (λ s. IsSnapshot b s.place (g.C.CellRunner.kept_session s.version) (map g.C.CellRunner.change_of s.pending.items)) _ _ c.remove.ensures.items (λ x one. one)
+    (All-remove (λ s. IsSnapshot b s.place (g.C.CellRunner.kept_session s.version) (map g.C.CellRunner.change_of s.pending.items)) c.args.snapshots.now.items (c.len-last.result - 1) all)
+
+pub slice_bounds-last_place-end : goal.slice_bounds-last_place-end
+slice_bounds-last_place-end g c = sym (length-take-le (c.len-last.result - 1) c.deref.result.now (omega (arith, c.len-last.ensures, ap length c.deref.ensures.value)))

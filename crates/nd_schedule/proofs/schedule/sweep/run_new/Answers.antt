@@ -1,5 +1,4 @@
-use Rattle.std.proofs.lemmas.Grind.{common_steps}
-use Rattle.std.proofs.Common.{arith, refl, subst}
+use Rattle.std.proofs.Common.{refl, subst}
 use Rattle.nd_change.specs.Steps.{Comes}
 use Rattle.nd_schedule.proofs.schedule.sweep.run_new.Goals as goal
 
@@ -33,6 +32,3 @@ returns-in_err-came-clause-counted g c = c.run_cell.ensures.counted
 
 pub returns-in_err-new-clause-counted : goal.returns-in_err-new-clause-counted
 returns-in_err-new-clause-counted g c = c.run_cell.ensures.counted
-
-pub run_cell-requires : goal.run_cell-requires
-run_cell-requires g c = grind (arith, common_steps)

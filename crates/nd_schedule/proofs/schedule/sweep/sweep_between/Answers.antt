@@ -71,3 +71,30 @@ returns-clause-counted g c = λ old new j before frame at h. let e : c.loop-k.k 
 
 pub returns-clause-counts : goal.returns-clause-counts
 returns-clause-counts g c = λ old new j before frame at h. counts_stale old new (j + (c.loop-k.k - c.args.i)) before _ (c.loop-k.invariant.counts old new j before frame at h)
+
+pub visit-requires-clause-words : goal.visit-requires-clause-words
+visit-requires-clause-words g c = c.requires.words
+
+pub visit-requires-clause-covered : goal.visit-requires-clause-covered
+visit-requires-clause-covered g c = c.loop-k.invariant.covered
+
+pub visit-requires-clause-cell : goal.visit-requires-clause-cell
+visit-requires-clause-cell g c = omega (arith, c.requires.cells)
+
+pub visit-requires-clause-record : goal.visit-requires-clause-record
+visit-requires-clause-record g c = omega (arith, c.requires.records)
+
+pub visit-requires-clause-word : goal.visit-requires-clause-word
+visit-requires-clause-word g c = omega (arith, c.requires.places)
+
+pub returns-clause-covered : goal.returns-clause-covered
+returns-clause-covered g c = c.loop-k.invariant.covered
+
+pub returns-clause-fit : goal.returns-clause-fit
+returns-clause-fit g c = c.loop-k.invariant.fit
+
+pub returns-then-is_empty-clause-covered : goal.returns-then-is_empty-clause-covered
+returns-then-is_empty-clause-covered g c = c.loop-k.invariant.covered
+
+pub returns-then-is_empty-clause-fit : goal.returns-then-is_empty-clause-fit
+returns-then-is_empty-clause-fit g c = c.loop-k.invariant.fit

@@ -21,6 +21,7 @@ use Rattle.nd_schedule.proofs.schedule.Runs.{ran_inserted}
 use Rattle.nd_schedule.proofs.schedule.Kept.{as_many}
 use Rattle.nd_schedule.proofs.schedule.Inserting
 use Rattle.nd_schedule.proofs.cells.Used.{used_insert}
+use Rattle.nd_schedule.proofs.schedule.Standing.{along}
 use Rattle.nd_schedule.proofs.schedule.notebook.Schedule.insert_between.Goals as goal
 
 pub install-requires-clause-fit : goal.install-requires-clause-fit
@@ -111,19 +112,16 @@ invariant_of-self-2 g c =
     let next : (n : ℕ) → n < c.args.next → IsTrue (is_label n now || eqb n c.deref.result.now.label) =
     λ n lt. ap (λ (l : ℕ). is_label n now || eqb n l) (ap (λ (s : KeptCell). s.label) c.deref.ensures) ∙ c.requires.next n lt in
     let kept : All (λ x. IsSnapshot (book_of c.args.self.now) x.place (g.C.CellRunner.kept_session x.version) (map g.C.CellRunner.change_of x.pending.items)) c.self.inside.snapshots.items =
-    subst (λ (s : Sheet). All (λ x. IsSnapshot (book_of s) x.place (g.C.CellRunner.kept_session x.version) (map g.C.CellRunner.change_of x.pending.items)) c.self.inside.snapshots.items) c.self.view_is (c.self.invariant).1 in (
-      subst (λ (s : Sheet). IsKept g.C.CellRunner.covers (book_of s) (each_of g.C.CellRunner.recorded c.put_one.new.records.items) c.put_one.new.words.items)
-          (sym (ap₂ sheet (ap cells_of cell_in ∙ map-insert (λ s. cell_of s.value) c.self.inside.cells.items c.args.at c.args.cell ∙ ap₂ (λ (cs : List Cell) (x : Cell). insert cs c.args.at x) (ap (λ (s : Sheet). s.cells) c.self.view_is) (ap cell_of (sym c.deref.ensures))) (ap (λ (s : Sheet). s.given) c.self.view_is)))
-          (subst (λ rs. IsKept g.C.CellRunner.covers (book_of (sheet (insert c.args.self.now.cells c.args.at (cell_of c.deref.result.now)) c.args.self.now.given)) rs c.put_one.new.words.items)
-          (sym (ap (each_of g.C.CellRunner.recorded) record_in ∙ map-insert (λ r. g.C.CellRunner.recorded r.value) c.install.new.records.items c.args.at c.in_ok-added.added.grown.new.record))
-          (subst (λ ws. IsKept g.C.CellRunner.covers (book_of (sheet (insert c.args.self.now.cells c.args.at (cell_of c.deref.result.now)) c.args.self.now.given)) (insert (each_of g.C.CellRunner.recorded c.install.new.records.items) c.args.at (g.C.CellRunner.recorded c.in_ok-added.added.grown.new.record.value)) ws) (sym word_in)
-          (Inserting.kept_with c.args.self.now c.args.at (cell_of c.deref.result.now) c.requires.at run.run.distinct label _ (each_of g.C.CellRunner.recorded c.make_places.new.records.items) (each_of g.C.CellRunner.recorded c.install.new.records.items) (g.C.CellRunner.recorded c.in_ok-added.added.grown.new.record.value)
-          (rooms ∙ run.run.records) c.in_ok-added.ensures.changed long c.install.ensures.records c.in_ok-added.ensures.made g.C.CellRunner.covers c.install.new.words.items c.in_ok-added.added.grown.new.word as_words words_now c.in_ok-added.ensures.worded))),
-      subst (λ (s : Sheet). All (λ x. IsSnapshot (book_of s) x.place (g.C.CellRunner.kept_session x.version) (map g.C.CellRunner.change_of x.pending.items)) c.carry.new.snapshots.items) (sym (ap₂ sheet (ap cells_of cell_in ∙ map-insert (λ s. cell_of s.value) c.self.inside.cells.items c.args.at c.args.cell ∙ ap₂ (λ (cs : List Cell) (x : Cell). insert cs c.args.at x) (ap (λ (s : Sheet). s.cells) c.self.view_is) (ap cell_of (sym c.deref.ensures))) (ap (λ (s : Sheet). s.given) c.self.view_is)))
-          (c.carry.ensures (book_of c.args.self.now) (book_of (sheet (insert c.args.self.now.cells c.args.at (cell_of c.deref.result.now)) c.args.self.now.given)) (Inserting.is_behind c.args.self.now c.args.at (cell_of c.deref.result.now) c.requires.at run.run.distinct label) c.in_ok-added.ensures.noted c.in_ok-added.ensures.fresh kept),
-      subst (AreUsed c.args.next) (sym (ap cells_of cell_in ∙ map-insert (λ s. cell_of s.value) c.self.inside.cells.items c.args.at c.args.cell ∙ ap₂ (λ (cs : List Cell) (x : Cell). insert cs c.args.at x) (ap (λ (s : Sheet). s.cells) c.self.view_is) (ap cell_of (sym c.deref.ensures))))
-          (used_insert c.args.next c.args.self.now.cells c.args.at (cell_of c.deref.result.now) next),
-    )
+    subst (λ (s : Sheet). All (λ x. IsSnapshot (book_of s) x.place (g.C.CellRunner.kept_session x.version) (map g.C.CellRunner.change_of x.pending.items)) c.self.inside.snapshots.items) c.self.view_is (c.self.invariant).1 in
+    along (λ (s : Sheet). IsKept g.C.CellRunner.covers (book_of s) (each_of g.C.CellRunner.recorded c.put_one.new.records.items) c.put_one.new.words.items)
+    (λ (s : Sheet). All (λ x. IsSnapshot (book_of s) x.place (g.C.CellRunner.kept_session x.version) (map g.C.CellRunner.change_of x.pending.items)) c.carry.new.snapshots.items) (AreUsed c.args.next) _ _ (ap₂ sheet (ap cells_of cell_in ∙ map-insert (λ s. cell_of s.value) c.self.inside.cells.items c.args.at c.args.cell ∙ ap₂ (λ (cs : List Cell) (x : Cell). insert cs c.args.at x) (ap (λ (s : Sheet). s.cells) c.self.view_is) (ap cell_of (sym c.deref.ensures))) (ap (λ (s : Sheet). s.given) c.self.view_is))
+    (subst (λ rs. IsKept g.C.CellRunner.covers (book_of (sheet (insert c.args.self.now.cells c.args.at (cell_of c.deref.result.now)) c.args.self.now.given)) rs c.put_one.new.words.items)
+    (sym (ap (each_of g.C.CellRunner.recorded) record_in ∙ map-insert (λ r. g.C.CellRunner.recorded r.value) c.install.new.records.items c.args.at c.in_ok-added.added.grown.new.record))
+    (subst (λ ws. IsKept g.C.CellRunner.covers (book_of (sheet (insert c.args.self.now.cells c.args.at (cell_of c.deref.result.now)) c.args.self.now.given)) (insert (each_of g.C.CellRunner.recorded c.install.new.records.items) c.args.at (g.C.CellRunner.recorded c.in_ok-added.added.grown.new.record.value)) ws) (sym word_in)
+    (Inserting.kept_with c.args.self.now c.args.at (cell_of c.deref.result.now) c.requires.at run.run.distinct label _ (each_of g.C.CellRunner.recorded c.make_places.new.records.items) (each_of g.C.CellRunner.recorded c.install.new.records.items) (g.C.CellRunner.recorded c.in_ok-added.added.grown.new.record.value)
+    (rooms ∙ run.run.records) c.in_ok-added.ensures.changed long c.install.ensures.records c.in_ok-added.ensures.made g.C.CellRunner.covers c.install.new.words.items c.in_ok-added.added.grown.new.word as_words words_now c.in_ok-added.ensures.worded)))
+    (c.carry.ensures (book_of c.args.self.now) (book_of (sheet (insert c.args.self.now.cells c.args.at (cell_of c.deref.result.now)) c.args.self.now.given)) (Inserting.is_behind c.args.self.now c.args.at (cell_of c.deref.result.now) c.requires.at run.run.distinct label) c.in_ok-added.ensures.noted c.in_ok-added.ensures.fresh kept)
+    (used_insert c.args.next c.args.self.now.cells c.args.at (cell_of c.deref.result.now) next)
 
 pub install-requires-clause-many : goal.install-requires-clause-many
 install-requires-clause-many g c = grind (arith, common_steps)

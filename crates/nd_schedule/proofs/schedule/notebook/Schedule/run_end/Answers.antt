@@ -10,13 +10,13 @@ use Rattle.nd_schedule.proofs.schedule.Turning.{if_ok_more}
 use Rattle.nd_schedule.proofs.schedule.Visiting.{on_ok}
 use Rattle.nd_schedule.proofs.schedule.notebook.Schedule.run_end.Goals as goal
 
-pub run_cell-requires : goal.run_cell-requires
-run_cell-requires g c =
+pub run_cell-requires-clause-none : goal.run_cell-requires-clause-none
+run_cell-requires-clause-none g c =
     let run : IsKept g.C.CellRunner.covers (book_of c.args.self.now) (each_of g.C.CellRunner.recorded c.self.inside.records.items) c.self.inside.words.items =
     subst (λ (s : Sheet). IsKept g.C.CellRunner.covers (book_of s) (each_of g.C.CellRunner.recorded c.self.inside.records.items) c.self.inside.words.items) c.self.view_is (c.self.invariant).0 in
     let at : ℕ = length c.args.self.now.cells in
     let le : at ≤ length c.args.self.now.cells = omega arith in
-    record { none = Inserting.none_here c.args.self.now at (cell_of c.args.source.now) le run.run.distinct c.requires.label (g.C.CellRunner.session_of c.args.session.now) c.requires.session }
+    Inserting.none_here c.args.self.now at (cell_of c.args.source.now) le run.run.distinct c.requires.label (g.C.CellRunner.session_of c.args.session.now) c.requires.session
 
 pub returns-clause-counts : goal.returns-clause-counts
 returns-clause-counts g c =

@@ -1,25 +1,17 @@
-use Rattle.std.proofs.Common.{◌≡◌, ◌+◌, ◌-◌, length, map, refl, sym, ap, subst, ◌∙◌, arith}
+use Rattle.std.proofs.Common.{◌≡◌, ◌+◌, ◌-◌, length, map, refl, sym, ap, subst, arith}
 use Rattle.std.proofs.lemmas.Grind.{common_steps}
 use Rattle.std.specs.Prelude.{slice_set}
 use Rattle.nd_model.specs.Book.Book.{Book}
-use Rattle.nd_model.specs.Book.Entries.{entry_at, record_at, records_of}
+use Rattle.nd_model.specs.Book.Entries.{records_of}
 use Rattle.nd_model.specs.Book.Notebook.{Sheet, book_of, world_in}
 use Rattle.nd_schedule.specs.Cells.Source.{sheet, cell_of}
 use Rattle.nd_schedule.specs.Cells.Shared.{each_of}
 use Rattle.nd_schedule.specs.Schedule.Sweep.{AreFit, IsAt, IsKept, IsOpen, change_at, fit_at}
-use Rattle.nd_schedule.proofs.schedule.Sweeping.{counts_stale, record_there}
-use Rattle.nd_schedule.proofs.schedule.Kept.{as_many}
+use Rattle.nd_schedule.proofs.schedule.Sweeping.{counts_stale}
 use Rattle.nd_schedule.proofs.schedule.Visiting.{open_frame}
 use Rattle.nd_schedule.proofs.schedule.Editing
 use Rattle.nd_schedule.proofs.schedule.Turning.{if_ok_more}
 use Rattle.nd_schedule.proofs.schedule.notebook.Schedule.swept.Goals as goal
-
-pub index-requires : goal.index-requires
-index-requires g c =
-    let run : IsKept g.C.CellRunner.covers (book_of c.args.self.now) (each_of g.C.CellRunner.recorded c.self.inside.records.items) c.self.inside.words.items =
-    subst (λ (s : Sheet). IsKept g.C.CellRunner.covers (book_of s) (each_of g.C.CellRunner.recorded c.self.inside.records.items) c.self.inside.words.items) c.self.view_is (c.self.invariant).0 in
-    let many : length c.self.inside.records.items ≡ length c.args.self.now.cells = as_many (λ r. g.C.CellRunner.recorded r.value) (book_of c.args.self.now) c.self.inside.records.items run.run.records in
-    omega (arith, many, c.requires.at)
 
 pub run_again-requires-clause-none : goal.run_again-requires-clause-none
 run_again-requires-clause-none g c =
@@ -47,11 +39,9 @@ swept_behind-requires-clause-at g c =
     let same : world_in (g.C.CellRunner.given c.self.inside.world) ≡ new.world = ap (λ (s : Sheet). world_in s.given) c.self.view_is in
     let ahead : IsOpen old new (c.args.at + 1) (c.args.at + 1) (world_in (g.C.CellRunner.given c.self.inside.world)) =
     open_frame old new _ _ _ _ _ _ (Editing.frame_behind c.args.self.now c.args.at (cell_of c.args.source.now) c.requires.at run.run.distinct c.requires.label c.requires.other c.args.self.now.cells (records_of old) new.world (length c.args.self.now.cells) refl refl refl refl) (sym same) in
-    let is : g.C.CellRunner.recorded c.deref.result.now ≡ record_at old.world (entry_at old c.args.at) =
-    ap g.C.CellRunner.recorded c.deref.ensures ∙ record_there (λ r. g.C.CellRunner.recorded r.value) old c.self.inside.records.items c.index.result.now c.args.at run.run.records c.requires.at c.index.ensures in
     let at : IsAt old new (c.args.at + 1) (c.args.at + 1) (g.C.CellRunner.change_of c.run_again.new.state.change) (g.C.CellRunner.session_of c.run_again.new.state.session) c.run_again.new.state.since =
-    Editing.first_at c.args.self.now c.args.at (cell_of c.args.source.now) c.requires.at run.run.distinct c.requires.label c.requires.other (g.C.CellRunner.session_of c.begin-state.result.session) c.begin-state.ensures.stands (g.C.CellRunner.change_of c.begin-state.result.change) _ (g.C.CellRunner.recorded c.deref.result.now) _ (world_in (g.C.CellRunner.given c.self.inside.world)) _
-    c.begin-state.ensures.none is same c.in-Ok.ensures.after c.in-Ok.ensures.follows c.in-Ok.ensures.since in
+    Editing.first_at c.args.self.now c.args.at (cell_of c.args.source.now) c.requires.at run.run.distinct c.requires.label c.requires.other (g.C.CellRunner.session_of c.begin-state.result.session) c.begin-state.ensures.stands (g.C.CellRunner.change_of c.begin-state.result.change) _ (g.C.CellRunner.recorded c.record_at-before.result.now) _ (world_in (g.C.CellRunner.given c.self.inside.world)) _
+    c.begin-state.ensures.none c.record_at-before.ensures.recorded same c.in-Ok.ensures.after c.in-Ok.ensures.follows c.in-Ok.ensures.since in
     (new, c.args.at + 1, ahead, at)
 
 pub swept_behind-requires-clause-covered : goal.swept_behind-requires-clause-covered
@@ -66,11 +56,9 @@ returns-clause-counts g c =
     let same : world_in (g.C.CellRunner.given c.self.inside.world) ≡ new.world = ap (λ (s : Sheet). world_in s.given) c.self.view_is in
     let ahead : IsOpen old new (c.args.at + 1) (c.args.at + 1) (world_in (g.C.CellRunner.given c.self.inside.world)) =
     open_frame old new _ _ _ _ _ _ (Editing.frame_behind c.args.self.now c.args.at (cell_of c.args.source.now) c.requires.at run.run.distinct c.requires.label c.requires.other c.args.self.now.cells (records_of old) new.world (length c.args.self.now.cells) refl refl refl refl) (sym same) in
-    let is : g.C.CellRunner.recorded c.deref.result.now ≡ record_at old.world (entry_at old c.args.at) =
-    ap g.C.CellRunner.recorded c.deref.ensures ∙ record_there (λ r. g.C.CellRunner.recorded r.value) old c.self.inside.records.items c.index.result.now c.args.at run.run.records c.requires.at c.index.ensures in
     let at : IsAt old new (c.args.at + 1) (c.args.at + 1) (g.C.CellRunner.change_of c.run_again.new.state.change) (g.C.CellRunner.session_of c.run_again.new.state.session) c.run_again.new.state.since =
-    Editing.first_at c.args.self.now c.args.at (cell_of c.args.source.now) c.requires.at run.run.distinct c.requires.label c.requires.other (g.C.CellRunner.session_of c.begin-state.result.session) c.begin-state.ensures.stands (g.C.CellRunner.change_of c.begin-state.result.change) _ (g.C.CellRunner.recorded c.deref.result.now) _ (world_in (g.C.CellRunner.given c.self.inside.world)) _
-    c.begin-state.ensures.none is same c.in-Ok.ensures.after c.in-Ok.ensures.follows c.in-Ok.ensures.since in
+    Editing.first_at c.args.self.now c.args.at (cell_of c.args.source.now) c.requires.at run.run.distinct c.requires.label c.requires.other (g.C.CellRunner.session_of c.begin-state.result.session) c.begin-state.ensures.stands (g.C.CellRunner.change_of c.begin-state.result.change) _ (g.C.CellRunner.recorded c.record_at-before.result.now) _ (world_in (g.C.CellRunner.given c.self.inside.world)) _
+    c.begin-state.ensures.none c.record_at-before.ensures.recorded same c.in-Ok.ensures.after c.in-Ok.ensures.follows c.in-Ok.ensures.since in
     c.swept_behind.ensures.counts new (c.args.at + 1) c.args.meter.now ahead at (Editing.first_counts c.args.self.now c.args.at (cell_of c.args.source.now) c.requires.at run.run.distinct c.requires.label c.requires.other c.args.meter.now c.run_again.new.meter c.run_again.ensures.counted)
 
 pub returns-clause-changed : goal.returns-clause-changed
@@ -82,11 +70,9 @@ returns-clause-changed g c =
     let same : world_in (g.C.CellRunner.given c.self.inside.world) ≡ new.world = ap (λ (s : Sheet). world_in s.given) c.self.view_is in
     let ahead : IsOpen old new (c.args.at + 1) (c.args.at + 1) (world_in (g.C.CellRunner.given c.self.inside.world)) =
     open_frame old new _ _ _ _ _ _ (Editing.frame_behind c.args.self.now c.args.at (cell_of c.args.source.now) c.requires.at run.run.distinct c.requires.label c.requires.other c.args.self.now.cells (records_of old) new.world (length c.args.self.now.cells) refl refl refl refl) (sym same) in
-    let is : g.C.CellRunner.recorded c.deref.result.now ≡ record_at old.world (entry_at old c.args.at) =
-    ap g.C.CellRunner.recorded c.deref.ensures ∙ record_there (λ r. g.C.CellRunner.recorded r.value) old c.self.inside.records.items c.index.result.now c.args.at run.run.records c.requires.at c.index.ensures in
     let at : IsAt old new (c.args.at + 1) (c.args.at + 1) (g.C.CellRunner.change_of c.run_again.new.state.change) (g.C.CellRunner.session_of c.run_again.new.state.session) c.run_again.new.state.since =
-    Editing.first_at c.args.self.now c.args.at (cell_of c.args.source.now) c.requires.at run.run.distinct c.requires.label c.requires.other (g.C.CellRunner.session_of c.begin-state.result.session) c.begin-state.ensures.stands (g.C.CellRunner.change_of c.begin-state.result.change) _ (g.C.CellRunner.recorded c.deref.result.now) _ (world_in (g.C.CellRunner.given c.self.inside.world)) _
-    c.begin-state.ensures.none is same c.in-Ok.ensures.after c.in-Ok.ensures.follows c.in-Ok.ensures.since in
+    Editing.first_at c.args.self.now c.args.at (cell_of c.args.source.now) c.requires.at run.run.distinct c.requires.label c.requires.other (g.C.CellRunner.session_of c.begin-state.result.session) c.begin-state.ensures.stands (g.C.CellRunner.change_of c.begin-state.result.change) _ (g.C.CellRunner.recorded c.record_at-before.result.now) _ (world_in (g.C.CellRunner.given c.self.inside.world)) _
+    c.begin-state.ensures.none c.record_at-before.ensures.recorded same c.in-Ok.ensures.after c.in-Ok.ensures.follows c.in-Ok.ensures.since in
     let step : c.args.at + 1 ≡ c.args.at + (c.args.at + 1 - c.args.at) = omega arith in
     if_ok_more c.swept_behind.result c.swept_behind.ensures.changed (λ s h. h new (c.args.at + 1) c.args.at c.args.at ahead at (omega arith) step
     (Editing.first_changed c.args.self.now c.args.at (cell_of c.args.source.now) c.requires.at run.run.distinct c.requires.label c.requires.other (g.C.CellRunner.session_of c.begin-state.result.session) c.begin-state.ensures.stands _ _ _ same
@@ -106,11 +92,9 @@ returns-clause-noted g c =
     let same : world_in (g.C.CellRunner.given c.self.inside.world) ≡ new.world = ap (λ (s : Sheet). world_in s.given) c.self.view_is in
     let ahead : IsOpen old new (c.args.at + 1) (c.args.at + 1) (world_in (g.C.CellRunner.given c.self.inside.world)) =
     open_frame old new _ _ _ _ _ _ (Editing.frame_behind c.args.self.now c.args.at (cell_of c.args.source.now) c.requires.at run.run.distinct c.requires.label c.requires.other c.args.self.now.cells (records_of old) new.world (length c.args.self.now.cells) refl refl refl refl) (sym same) in
-    let is : g.C.CellRunner.recorded c.deref.result.now ≡ record_at old.world (entry_at old c.args.at) =
-    ap g.C.CellRunner.recorded c.deref.ensures ∙ record_there (λ r. g.C.CellRunner.recorded r.value) old c.self.inside.records.items c.index.result.now c.args.at run.run.records c.requires.at c.index.ensures in
     let at : IsAt old new (c.args.at + 1) (c.args.at + 1) (g.C.CellRunner.change_of c.run_again.new.state.change) (g.C.CellRunner.session_of c.run_again.new.state.session) c.run_again.new.state.since =
-    Editing.first_at c.args.self.now c.args.at (cell_of c.args.source.now) c.requires.at run.run.distinct c.requires.label c.requires.other (g.C.CellRunner.session_of c.begin-state.result.session) c.begin-state.ensures.stands (g.C.CellRunner.change_of c.begin-state.result.change) _ (g.C.CellRunner.recorded c.deref.result.now) _ (world_in (g.C.CellRunner.given c.self.inside.world)) _
-    c.begin-state.ensures.none is same c.in-Ok.ensures.after c.in-Ok.ensures.follows c.in-Ok.ensures.since in
+    Editing.first_at c.args.self.now c.args.at (cell_of c.args.source.now) c.requires.at run.run.distinct c.requires.label c.requires.other (g.C.CellRunner.session_of c.begin-state.result.session) c.begin-state.ensures.stands (g.C.CellRunner.change_of c.begin-state.result.change) _ (g.C.CellRunner.recorded c.record_at-before.result.now) _ (world_in (g.C.CellRunner.given c.self.inside.world)) _
+    c.begin-state.ensures.none c.record_at-before.ensures.recorded same c.in-Ok.ensures.after c.in-Ok.ensures.follows c.in-Ok.ensures.since in
     if_ok_more c.swept_behind.result c.swept_behind.ensures.noted (λ s h. h new ahead at)
 
 pub overflow_add-at : goal.overflow_add-at

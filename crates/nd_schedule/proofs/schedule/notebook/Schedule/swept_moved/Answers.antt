@@ -6,12 +6,12 @@ use Rattle.nd_model.specs.Book.Book.{Book, Move}
 use Rattle.nd_model.specs.Book.Notebook.{Sheet, book_of, edited_sheet, world_in}
 use Rattle.nd_schedule.specs.Cells.Source.{cell_of, cells_of}
 use Rattle.nd_schedule.specs.Cells.Shared.{each_of}
-use Rattle.nd_schedule.specs.Schedule.Sweep.{AreFit, fit_at, AreWords, IsAt, IsKept, IsMoving}
+use Rattle.nd_schedule.specs.Schedule.Sweep.{AreWords, IsAt, IsKept, IsMoving}
 use Rattle.nd_schedule.specs.Schedule.Snapshot.{IsSnapshot}
 use Rattle.nd_schedule.proofs.schedule.Standing.{kept_by_records, kept_lists}
 use Rattle.std.specs.List.{All}
 use Rattle.nd_schedule.proofs.schedule.Kept.{as_many}
-use Rattle.nd_schedule.proofs.schedule.Turning.{from_hand_on, front, if_ok_more, moving}
+use Rattle.nd_schedule.proofs.schedule.Turning.{from_hand_on, front, gathered_of, if_ok_more, moving}
 use Rattle.nd_schedule.proofs.schedule.notebook.Schedule.swept_moved.Goals as goal
 
 pub move_down-done-requires-clause-records : goal.move_down-done-requires-clause-records
@@ -53,8 +53,8 @@ move_down-done-requires-clause-words g c =
     subst (λ rs. AreWords g.C.CellRunner.covers c.deref-then-from-to-2.result.now (each_of g.C.CellRunner.recorded rs)) (sym c.deref-then-from-to.ensures.value)
     (subst (λ ws. AreWords g.C.CellRunner.covers ws (each_of g.C.CellRunner.recorded c.self.inside.records.items)) (sym c.deref-then-from-to-2.ensures.value) run.words)
 
-pub returns-then-from-to-clause-moved : goal.returns-then-from-to-clause-moved
-returns-then-from-to-clause-moved g c =
+pub returns-then-from-to-clause-gathered : goal.returns-then-from-to-clause-gathered
+returns-then-from-to-clause-gathered g c =
     let run : IsKept g.C.CellRunner.covers (book_of c.args.self.now) (each_of g.C.CellRunner.recorded c.self.inside.records.items) c.self.inside.words.items =
     subst (λ (s : Sheet). IsKept g.C.CellRunner.covers (book_of s) (each_of g.C.CellRunner.recorded c.self.inside.records.items) c.self.inside.words.items) c.self.view_is (c.self.invariant).0 in
     let old : Book = book_of c.args.self.now in
@@ -66,22 +66,8 @@ returns-then-from-to-clause-moved g c =
     let at : IsAt old new c.args.from c.args.from (g.C.CellRunner.change_of c.begin-state.result.change) (g.C.CellRunner.session_of c.begin-state.result.session) c.begin-state.result.since =
     subst (λ k. IsAt old new k k (g.C.CellRunner.change_of c.begin-state.result.change) (g.C.CellRunner.session_of c.begin-state.result.session) c.begin-state.result.since) least
     (c.begin-state.ensures.at new (front old new c.args.from c.args.to _ _ _ way c.min.result (omega (arith, least, c.if-from-to.true)) (omega (arith, least, c.if-from-to.true))) refl) in
-    from_hand_on _ c.hand_on.result c.move_down-done.result c.move_down-done.new.moved c.hand_on.ensures (if_ok_more c.move_down-done.result c.move_down-done.ensures.moved (λ _ h. h old new way at))
-
-pub returns-then-from-to-clause-made : goal.returns-then-from-to-clause-made
-returns-then-from-to-clause-made g c =
-    let run : IsKept g.C.CellRunner.covers (book_of c.args.self.now) (each_of g.C.CellRunner.recorded c.self.inside.records.items) c.self.inside.words.items =
-    subst (λ (s : Sheet). IsKept g.C.CellRunner.covers (book_of s) (each_of g.C.CellRunner.recorded c.self.inside.records.items) c.self.inside.words.items) c.self.view_is (c.self.invariant).0 in
-    let old : Book = book_of c.args.self.now in
-    let new : Book = book_of (edited_sheet (Move c.args.from c.args.to) c.args.self.now) in
-    let way : IsMoving old new c.args.from c.args.to (cells_of c.deref.result.now) (each_of g.C.CellRunner.recorded c.deref-then-from-to.result.now) (world_in (g.C.CellRunner.given c.self.inside.world)) =
-    moving c.args.self.now c.args.from c.args.to _ _ _ (sym (ap cells_of c.deref.ensures.value ∙ ap (λ (s : Sheet). s.cells) c.self.view_is))
-    (record { records = ap (each_of g.C.CellRunner.recorded) c.deref-then-from-to.ensures.value ∙ run.run.records; distinct = run.run.distinct }) (sym (ap (λ (s : Sheet). world_in s.given) c.self.view_is)) c.requires.from c.requires.to in
-    let least : c.min.result ≡ c.args.from = omega (arith, c.min.ensures, c.if-from-to.true) in
-    let at : IsAt old new c.args.from c.args.from (g.C.CellRunner.change_of c.begin-state.result.change) (g.C.CellRunner.session_of c.begin-state.result.session) c.begin-state.result.since =
-    subst (λ k. IsAt old new k k (g.C.CellRunner.change_of c.begin-state.result.change) (g.C.CellRunner.session_of c.begin-state.result.session) c.begin-state.result.since) least
-    (c.begin-state.ensures.at new (front old new c.args.from c.args.to _ _ _ way c.min.result (omega (arith, least, c.if-from-to.true)) (omega (arith, least, c.if-from-to.true))) refl) in
-    from_hand_on _ c.hand_on.result c.move_down-done.result c.move_down-done.new.moved c.hand_on.ensures (if_ok_more c.move_down-done.result c.move_down-done.ensures.made (λ _ h. h old new way at))
+    let inside : length c.deref.result.now ≡ length c.args.self.now.cells = ap length c.deref.ensures.value ∙ sym (length-map c.self.inside.cells.items (λ s. cell_of s.value)) ∙ ap (λ (s : Sheet). length s.cells) c.self.view_is in
+    from_hand_on _ c.hand_on.result c.move_down-done.result c.move_down-done.new.moved c.hand_on.ensures (if_ok_more c.move_down-done.result c.move_down-done.ensures.gathered (λ _ h. gathered_of inside (h old new way at)))
 
 pub returns-then-from-to-clause-counts : goal.returns-then-from-to-clause-counts
 returns-then-from-to-clause-counts g c =
@@ -137,8 +123,8 @@ move_up-done-requires-clause-words g c =
     subst (λ rs. AreWords g.C.CellRunner.covers c.deref-4.result.now (each_of g.C.CellRunner.recorded rs)) (sym c.deref-3.ensures.value)
     (subst (λ ws. AreWords g.C.CellRunner.covers ws (each_of g.C.CellRunner.recorded c.self.inside.records.items)) (sym c.deref-4.ensures.value) run.words)
 
-pub returns-clause-moved : goal.returns-clause-moved
-returns-clause-moved g c =
+pub returns-clause-gathered : goal.returns-clause-gathered
+returns-clause-gathered g c =
     let run : IsKept g.C.CellRunner.covers (book_of c.args.self.now) (each_of g.C.CellRunner.recorded c.self.inside.records.items) c.self.inside.words.items =
     subst (λ (s : Sheet). IsKept g.C.CellRunner.covers (book_of s) (each_of g.C.CellRunner.recorded c.self.inside.records.items) c.self.inside.words.items) c.self.view_is (c.self.invariant).0 in
     let old : Book = book_of c.args.self.now in
@@ -150,22 +136,8 @@ returns-clause-moved g c =
     let at : IsAt old new c.args.to c.args.to (g.C.CellRunner.change_of c.begin-state.result.change) (g.C.CellRunner.session_of c.begin-state.result.session) c.begin-state.result.since =
     subst (λ k. IsAt old new k k (g.C.CellRunner.change_of c.begin-state.result.change) (g.C.CellRunner.session_of c.begin-state.result.session) c.begin-state.result.since) least
     (c.begin-state.ensures.at new (front old new c.args.from c.args.to _ _ _ way c.min.result (omega (arith, least, c.if-from-to.false)) (omega (arith, least, c.if-from-to.false))) refl) in
-    from_hand_on _ c.hand_on-2.result c.move_up-done.result c.move_up-done.new.moved c.hand_on-2.ensures (if_ok_more c.move_up-done.result c.move_up-done.ensures.moved (λ _ h. h old new way at))
-
-pub returns-clause-made : goal.returns-clause-made
-returns-clause-made g c =
-    let run : IsKept g.C.CellRunner.covers (book_of c.args.self.now) (each_of g.C.CellRunner.recorded c.self.inside.records.items) c.self.inside.words.items =
-    subst (λ (s : Sheet). IsKept g.C.CellRunner.covers (book_of s) (each_of g.C.CellRunner.recorded c.self.inside.records.items) c.self.inside.words.items) c.self.view_is (c.self.invariant).0 in
-    let old : Book = book_of c.args.self.now in
-    let new : Book = book_of (edited_sheet (Move c.args.from c.args.to) c.args.self.now) in
-    let way : IsMoving old new c.args.from c.args.to (cells_of c.deref-2.result.now) (each_of g.C.CellRunner.recorded c.deref-3.result.now) (world_in (g.C.CellRunner.given c.self.inside.world)) =
-    moving c.args.self.now c.args.from c.args.to _ _ _ (sym (ap cells_of c.deref-2.ensures.value ∙ ap (λ (s : Sheet). s.cells) c.self.view_is))
-    (record { records = ap (each_of g.C.CellRunner.recorded) c.deref-3.ensures.value ∙ run.run.records; distinct = run.run.distinct }) (sym (ap (λ (s : Sheet). world_in s.given) c.self.view_is)) c.requires.from c.requires.to in
-    let least : c.min.result ≡ c.args.to = omega (arith, c.min.ensures, c.if-from-to.false) in
-    let at : IsAt old new c.args.to c.args.to (g.C.CellRunner.change_of c.begin-state.result.change) (g.C.CellRunner.session_of c.begin-state.result.session) c.begin-state.result.since =
-    subst (λ k. IsAt old new k k (g.C.CellRunner.change_of c.begin-state.result.change) (g.C.CellRunner.session_of c.begin-state.result.session) c.begin-state.result.since) least
-    (c.begin-state.ensures.at new (front old new c.args.from c.args.to _ _ _ way c.min.result (omega (arith, least, c.if-from-to.false)) (omega (arith, least, c.if-from-to.false))) refl) in
-    from_hand_on _ c.hand_on-2.result c.move_up-done.result c.move_up-done.new.moved c.hand_on-2.ensures (if_ok_more c.move_up-done.result c.move_up-done.ensures.made (λ _ h. h old new way at))
+    let inside : length c.deref-2.result.now ≡ length c.args.self.now.cells = ap length c.deref-2.ensures.value ∙ sym (length-map c.self.inside.cells.items (λ s. cell_of s.value)) ∙ ap (λ (s : Sheet). length s.cells) c.self.view_is in
+    from_hand_on _ c.hand_on-2.result c.move_up-done.result c.move_up-done.new.moved c.hand_on-2.ensures (if_ok_more c.move_up-done.result c.move_up-done.ensures.gathered (λ _ h. gathered_of inside (h old new way at)))
 
 pub returns-clause-counts : goal.returns-clause-counts
 returns-clause-counts g c =
@@ -261,70 +233,6 @@ move_up-done-requires-clause-from g c = grind (arith, common_steps)
 
 pub move_up-done-requires-clause-up : goal.move_up-done-requires-clause-up
 move_up-done-requires-clause-up g c = grind (arith, common_steps)
-
-pub returns-clause-fit_behind : goal.returns-clause-fit_behind
-returns-clause-fit_behind g c =
-    let inside : length c.deref-2.result.now ≡ length c.args.self.now.cells = ap length c.deref-2.ensures.value ∙ sym (length-map c.self.inside.cells.items (λ s. cell_of s.value)) ∙ ap (λ (s : Sheet). length s.cells) c.self.view_is in
-    from_hand_on _ c.hand_on-2.result c.move_up-done.result c.move_up-done.new.moved c.hand_on-2.ensures
-    (if_ok_more c.move_up-done.result c.move_up-done.ensures.fit_behind
-    (λ _ h. subst (λ n. AreFit g.C.CellRunner.covers n (map (λ c'. fit_at c'.place (g.C.CellRunner.recorded c'.record.value) c'.word) c.move_up-done.new.moved.behind.items)) inside h))
-
-pub returns-clause-fit_between : goal.returns-clause-fit_between
-returns-clause-fit_between g c =
-    let inside : length c.deref-2.result.now ≡ length c.args.self.now.cells = ap length c.deref-2.ensures.value ∙ sym (length-map c.self.inside.cells.items (λ s. cell_of s.value)) ∙ ap (λ (s : Sheet). length s.cells) c.self.view_is in
-    from_hand_on _ c.hand_on-2.result c.move_up-done.result c.move_up-done.new.moved c.hand_on-2.ensures
-    (if_ok_more c.move_up-done.result c.move_up-done.ensures.fit_between
-    (λ _ h. subst (λ n. AreFit g.C.CellRunner.covers n (map (λ c'. fit_at c'.place (g.C.CellRunner.recorded c'.record.value) c'.word) c.move_up-done.new.moved.between.items)) inside h))
-
-pub returns-clause-worded : goal.returns-clause-worded
-returns-clause-worded g c = from_hand_on _ c.hand_on-2.result c.move_up-done.result c.move_up-done.new.moved c.hand_on-2.ensures c.move_up-done.ensures.worded
-
-pub returns-then-from-to-clause-fit_behind : goal.returns-then-from-to-clause-fit_behind
-returns-then-from-to-clause-fit_behind g c =
-    let inside : length c.deref.result.now ≡ length c.args.self.now.cells = ap length c.deref.ensures.value ∙ sym (length-map c.self.inside.cells.items (λ s. cell_of s.value)) ∙ ap (λ (s : Sheet). length s.cells) c.self.view_is in
-    from_hand_on _ c.hand_on.result c.move_down-done.result c.move_down-done.new.moved c.hand_on.ensures
-    (if_ok_more c.move_down-done.result c.move_down-done.ensures.fit_behind
-    (λ _ h. subst (λ n. AreFit g.C.CellRunner.covers n (map (λ c'. fit_at c'.place (g.C.CellRunner.recorded c'.record.value) c'.word) c.move_down-done.new.moved.behind.items)) inside h))
-
-pub returns-then-from-to-clause-fit_between : goal.returns-then-from-to-clause-fit_between
-returns-then-from-to-clause-fit_between g c =
-    let inside : length c.deref.result.now ≡ length c.args.self.now.cells = ap length c.deref.ensures.value ∙ sym (length-map c.self.inside.cells.items (λ s. cell_of s.value)) ∙ ap (λ (s : Sheet). length s.cells) c.self.view_is in
-    from_hand_on _ c.hand_on.result c.move_down-done.result c.move_down-done.new.moved c.hand_on.ensures
-    (if_ok_more c.move_down-done.result c.move_down-done.ensures.fit_between
-    (λ _ h. subst (λ n. AreFit g.C.CellRunner.covers n (map (λ c'. fit_at c'.place (g.C.CellRunner.recorded c'.record.value) c'.word) c.move_down-done.new.moved.between.items)) inside h))
-
-pub returns-then-from-to-clause-worded : goal.returns-then-from-to-clause-worded
-returns-then-from-to-clause-worded g c = from_hand_on _ c.hand_on.result c.move_down-done.result c.move_down-done.new.moved c.hand_on.ensures c.move_down-done.ensures.worded
-
-pub returns-then-from-to-clause-stale : goal.returns-then-from-to-clause-stale
-returns-then-from-to-clause-stale g c =
-    let run : IsKept g.C.CellRunner.covers (book_of c.args.self.now) (each_of g.C.CellRunner.recorded c.self.inside.records.items) c.self.inside.words.items =
-    subst (λ (s : Sheet). IsKept g.C.CellRunner.covers (book_of s) (each_of g.C.CellRunner.recorded c.self.inside.records.items) c.self.inside.words.items) c.self.view_is (c.self.invariant).0 in
-    let old : Book = book_of c.args.self.now in
-    let new : Book = book_of (edited_sheet (Move c.args.from c.args.to) c.args.self.now) in
-    let way : IsMoving old new c.args.from c.args.to (cells_of c.deref.result.now) (each_of g.C.CellRunner.recorded c.deref-then-from-to.result.now) (world_in (g.C.CellRunner.given c.self.inside.world)) =
-    moving c.args.self.now c.args.from c.args.to _ _ _ (sym (ap cells_of c.deref.ensures.value ∙ ap (λ (s : Sheet). s.cells) c.self.view_is))
-    (record { records = ap (each_of g.C.CellRunner.recorded) c.deref-then-from-to.ensures.value ∙ run.run.records; distinct = run.run.distinct }) (sym (ap (λ (s : Sheet). world_in s.given) c.self.view_is)) c.requires.from c.requires.to in
-    let least : c.min.result ≡ c.args.from = omega (arith, c.min.ensures, c.if-from-to.true) in
-    let at : IsAt old new c.args.from c.args.from (g.C.CellRunner.change_of c.begin-state.result.change) (g.C.CellRunner.session_of c.begin-state.result.session) c.begin-state.result.since =
-    subst (λ k. IsAt old new k k (g.C.CellRunner.change_of c.begin-state.result.change) (g.C.CellRunner.session_of c.begin-state.result.session) c.begin-state.result.since) least
-    (c.begin-state.ensures.at new (front old new c.args.from c.args.to _ _ _ way c.min.result (omega (arith, least, c.if-from-to.true)) (omega (arith, least, c.if-from-to.true))) refl) in
-    from_hand_on _ c.hand_on.result c.move_down-done.result c.move_down-done.new.moved c.hand_on.ensures (if_ok_more c.move_down-done.result c.move_down-done.ensures.stale (λ _ h. h old new way at))
-
-pub returns-clause-stale : goal.returns-clause-stale
-returns-clause-stale g c =
-    let run : IsKept g.C.CellRunner.covers (book_of c.args.self.now) (each_of g.C.CellRunner.recorded c.self.inside.records.items) c.self.inside.words.items =
-    subst (λ (s : Sheet). IsKept g.C.CellRunner.covers (book_of s) (each_of g.C.CellRunner.recorded c.self.inside.records.items) c.self.inside.words.items) c.self.view_is (c.self.invariant).0 in
-    let old : Book = book_of c.args.self.now in
-    let new : Book = book_of (edited_sheet (Move c.args.from c.args.to) c.args.self.now) in
-    let way : IsMoving old new c.args.from c.args.to (cells_of c.deref-2.result.now) (each_of g.C.CellRunner.recorded c.deref-3.result.now) (world_in (g.C.CellRunner.given c.self.inside.world)) =
-    moving c.args.self.now c.args.from c.args.to _ _ _ (sym (ap cells_of c.deref-2.ensures.value ∙ ap (λ (s : Sheet). s.cells) c.self.view_is))
-    (record { records = ap (each_of g.C.CellRunner.recorded) c.deref-3.ensures.value ∙ run.run.records; distinct = run.run.distinct }) (sym (ap (λ (s : Sheet). world_in s.given) c.self.view_is)) c.requires.from c.requires.to in
-    let least : c.min.result ≡ c.args.to = omega (arith, c.min.ensures, c.if-from-to.false) in
-    let at : IsAt old new c.args.to c.args.to (g.C.CellRunner.change_of c.begin-state.result.change) (g.C.CellRunner.session_of c.begin-state.result.session) c.begin-state.result.since =
-    subst (λ k. IsAt old new k k (g.C.CellRunner.change_of c.begin-state.result.change) (g.C.CellRunner.session_of c.begin-state.result.session) c.begin-state.result.since) least
-    (c.begin-state.ensures.at new (front old new c.args.from c.args.to _ _ _ way c.min.result (omega (arith, least, c.if-from-to.false)) (omega (arith, least, c.if-from-to.false))) refl) in
-    from_hand_on _ c.hand_on-2.result c.move_up-done.result c.move_up-done.new.moved c.hand_on-2.ensures (if_ok_more c.move_up-done.result c.move_up-done.ensures.stale (λ _ h. h old new way at))
 
 pub move_down-done-requires-clause-between : goal.move_down-done-requires-clause-between
 move_down-done-requires-clause-between g c = c.nothing-moved.ensures.between

@@ -12,11 +12,11 @@ use Rattle.nd_schedule.proofs.schedule.Visiting.{open_frame}
 use Rattle.nd_schedule.proofs.schedule.Inserting
 use Rattle.nd_schedule.proofs.schedule.notebook.Schedule.swept_new.Goals as goal
 
-pub run_new-requires : goal.run_new-requires
-run_new-requires g c =
+pub run_new-requires-clause-none : goal.run_new-requires-clause-none
+run_new-requires-clause-none g c =
     let run : IsKept g.C.CellRunner.covers (book_of c.args.self.now) (each_of g.C.CellRunner.recorded c.self.inside.records.items) c.self.inside.words.items =
     subst (λ (s : Sheet). IsKept g.C.CellRunner.covers (book_of s) (each_of g.C.CellRunner.recorded c.self.inside.records.items) c.self.inside.words.items) c.self.view_is (c.self.invariant).0 in
-    record { none = Inserting.none_here c.args.self.now c.args.at (cell_of c.args.source.now) c.requires.at run.run.distinct c.requires.label (g.C.CellRunner.session_of c.begin-state.result.session) c.begin-state.ensures.stands }
+    Inserting.none_here c.args.self.now c.args.at (cell_of c.args.source.now) c.requires.at run.run.distinct c.requires.label (g.C.CellRunner.session_of c.begin-state.result.session) c.begin-state.ensures.stands
 
 pub returns-in-Err-clause-counts : goal.returns-in-Err-clause-counts
 returns-in-Err-clause-counts g c =

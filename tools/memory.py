@@ -110,6 +110,8 @@ def readers(elements: int) -> Iterator[Case]:
     ends = [f"print(x[{at}], x[-{at}])" for at in range(1, 1_001)]
     yield Case("1,000 cells `print(x[i], x[-i])`", [make, *ends], size=size)
     yield Case("100 of them, and an edit of the array", [make, *ends[:100]], edited(0, make + " + 1"), size)
+    chosen = [[at * at * 7_919 * cell % elements for at in range(10)] for cell in range(1, 1_001)]
+    yield Case("1,000 cells `print(x[[..]])` of ten scattered elements", [make, *(f"print(x[{at}])" for at in chosen)], size=size)
     yield Case("`value` of the array", [make], asked("value x"), size)
     yield Case("`saved` of the array", [f"np.save('x', np.arange({elements}))"], asked("saved 0 x"), size)
 

@@ -101,11 +101,12 @@ class Costs(unittest.TestCase):
         self.assertLess(editing, 900)
 
     def test_scattered_positions_of_a_large_array_cost_what_those_of_a_small_one_do(self) -> None:
-        """The last of them lies in another page of bits: it is made for each statement, and none is for what lies between."""
+        """The last of them lies in another page of bits, for which the list of pages grows once: no page is made for what lies
+        between."""
         small, large = (self.cost([f'x = np.arange({count})'], 'insert 1', scattered_reads(count), '.')
                         for count in (64, 2**20))
         self.assertGreater(small, STATEMENTS)
-        self.assertLess(large - small, 2 * STATEMENTS)
+        self.assertLess(large - small, 3 * STATEMENTS)
 
     def in_place(self, axes: int, other: int, statement: str) -> int:
         """How many allocations a cell takes of such statements, on arrays x and y of so many axes."""

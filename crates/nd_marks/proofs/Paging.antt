@@ -38,6 +38,12 @@ page_before [] v k lt = elim lt [ ]
 page_before (w ∷ vs) v zero lt = refl
 page_before (w ∷ vs) v (suc k) lt = page_before vs v k (omega arith)
 
+-- a word past the last of a page
+pub past_page : (ws : List ℕ) (k : ℕ) → length ws ≤ k → slice_index ws k ≡ 0
+past_page [] k le = refl
+past_page (w ∷ ws) zero le = absurd (omega arith)
+past_page (w ∷ ws) (suc k) le = past_page ws k (omega arith)
+
 -- a word past the last page has no bit
 pub no_word : (ps : List (List ℕ)) (q : ℕ) → length ps ≤ q / 512 → word_at ps q ≡ 0
 no_word ps q le = ap (λ ws. slice_index ws (q % 512)) (page_past ps (q / 512) le)

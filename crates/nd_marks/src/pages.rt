@@ -5,11 +5,11 @@ ghost use Rattle.nd_marks.specs.Marks.{has_bit, in_word, page_at, pages_of, word
 use std::alloc::{AllocError, Global};
 use std::mem;
 
-/// Bits by pages of 4 KB, each for 32,768 byte offsets. A page has 512 words once a bit of it was set,
-/// and none before.
+/// Bits by pages of 4 KB, each for 32,768 byte offsets. A page has words up to the last in which a bit
+/// was set, 512 at most.
 pub(crate) type Pages = Vec<Vec<u64>>;
 
-/// The words of a page that is there.
+/// The most words of a page.
 pub(crate) const WORDS: usize = 512;
 
 /// The byte offsets for which a page has bits.
@@ -48,8 +48,19 @@ pub(crate) fn word_of(pages: &[Vec<u64>], at: u128) -> u64
     )
 }
 
-/// Returns the index of the next word that may have bits: the next one, or where this page is not
-/// there, the first of the next page.
+/// The index of the first word from one on that has bits, or where the page ends.
+fn skip_empty(words: &[u64], at: usize) -> usize
+    ensures more { at ≤ result }
+    ensures none { (k : ℕ) → at ≤ k → k < result → slice_index words.now k ≡ 0 }
+{
+    let mut next = at;
+    while next < words.len() && words[next] == 0 {
+        next += 1;
+    }
+    next
+}
+
+/// Returns the index of the next word that has bits, or that of the first word of the next page.
 pub(crate) fn next_index(pages: &[Vec<u64>], at: u128) -> u128
     requires { at < 2 ^ 100 }
     ensures more { at < result }
@@ -57,11 +68,12 @@ pub(crate) fn next_index(pages: &[Vec<u64>], at: u128) -> u128
     ensures none { (q : ℕ) → at < q → q < result → word_at (pages_of pages.now) q ≡ 0 }
 {
     let page = at / WORDS as u128;
-    if page_of(pages, page).is_empty() {
-        (page + 1) * WORDS as u128
-    } else {
-        at + 1
+    let words = page_of(pages, page);
+    let next = skip_empty(words, (at % WORDS as u128) as usize + 1);
+    if next >= words.len().min(WORDS) {
+        return (page + 1) * WORDS as u128;
     }
+    page * WORDS as u128 + next as u128
 }
 
 /// Returns the memory that pages take, in words of 8 bytes. No promise depends on it.
@@ -87,45 +99,44 @@ fn extend_pages(pages: &mut Pages, count: u64) -> Result<(), AllocError>
     Ok(())
 }
 
-/// Appends words without bits to a page, until there are 512.
-fn fill_page(words: &mut Vec<u64>) -> Result<(), AllocError>
+/// Appends words without bits to a page, until there are `count`.
+fn fill_page(words: &mut Vec<u64>, count: usize) -> Result<(), AllocError>
     ensures same { (q : ℕ) → slice_index words.new.items q ≡ slice_index words.old.items q }
-    ensures ok { OnOk result (512 ≤ length words.new.items) }
+    ensures ok { OnOk result (count ≤ length words.new.items) }
 {
-    if words.is_empty() {
-        words.reserve_exact(WORDS)?;
-    }
-    for _ in words.len()..WORDS {
+    words.reserve(count.saturating_sub(words.len()))?;
+    for _ in words.len()..count {
         words.push(0)?;
     }
     Ok(())
 }
 
-/// Makes the page of this index. No bit is set.
-fn new_page(pages: &mut Pages, page: u64) -> Result<(), AllocError>
+/// Makes the first `count` words of the page of this index. No bit is set.
+fn new_page(pages: &mut Pages, page: u64, count: usize) -> Result<(), AllocError>
     requires { page < 2 ^ 60 }
     ensures same { (k q : ℕ) → slice_index (page_at (pages_of pages.new.items) k) q
         ≡ slice_index (page_at (pages_of pages.old.items) k) q }
     ensures there { OnOk result (page < length pages.new.items) }
-    ensures room { OnOk result (512 ≤ length (page_at (pages_of pages.new.items) page)) }
+    ensures room { OnOk result (count ≤ length (page_at (pages_of pages.new.items) page)) }
 {
     extend_pages(pages, page + 1)?;
-    fill_page(&mut pages[page as usize])
+    fill_page(&mut pages[page as usize], count)
 }
 
-/// Makes the page of this index, if it is not there.
+/// Makes the first `count` words of the page of this index, as far as they are not there.
 #[inline(always)]
-fn open_page(pages: &mut Pages, page: u64) -> Result<(), AllocError>
-    requires { page < 2 ^ 60 }
+fn open_page(pages: &mut Pages, page: u64, count: usize) -> Result<(), AllocError>
+    requires some { 0 < count }
+    requires near { page < 2 ^ 60 }
     ensures same { (k q : ℕ) → slice_index (page_at (pages_of pages.new.items) k) q
         ≡ slice_index (page_at (pages_of pages.old.items) k) q }
     ensures there { OnOk result (page < length pages.new.items) }
-    ensures room { OnOk result (512 ≤ length (page_at (pages_of pages.new.items) page)) }
+    ensures room { OnOk result (count ≤ length (page_at (pages_of pages.new.items) page)) }
 {
-    if page_of(pages, u128::from(page)).len() >= WORDS {
+    if page_of(pages, u128::from(page)).len() >= count {
         return Ok(());
     }
-    new_page(pages, page)
+    new_page(pages, page, count)
 }
 
 /// Adds the bits of a word to the one of this index in a page, by one OR.
@@ -149,12 +160,9 @@ pub(crate) fn add_word(pages: &mut Pages, at: u64, word: u64) -> Result<(), Allo
         return Ok(());
     }
     let page = at / WORDS as u64;
-    open_page(pages, page)?;
-    put_word(
-        &mut pages[page as usize],
-        (at % WORDS as u64) as usize,
-        word,
-    );
+    let index = (at % WORDS as u64) as usize;
+    open_page(pages, page, index + 1)?;
+    put_word(&mut pages[page as usize], index, word);
     Ok(())
 }
 

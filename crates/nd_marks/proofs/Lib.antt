@@ -1,6 +1,7 @@
 pub mod Along
 pub mod Bits
 pub mod Chosen
+pub mod Counted
 pub mod Grids
 pub mod Listed
 pub mod Paging

@@ -126,7 +126,7 @@ in_grids_places (g ∷ gs) p = is_in-append p (lines_left g 0) (grids_places gs)
 
 -- ---- bits
 
-none_set : (f : ℕ → Bool) (a n : ℕ) → ((i : ℕ) → a ≤ i → i < a + n → f i ≡ false) → filter f (count_up a n) ≡ []
+pub none_set : (f : ℕ → Bool) (a n : ℕ) → ((i : ℕ) → a ≤ i → i < a + n → f i ≡ false) → filter f (count_up a n) ≡ []
 none_set f a zero h = refl
 none_set f a (suc n) h = rw (h a (omega arith) (omega arith)) (none_set f (a + 1) n (λ i from to. h i (omega arith) (omega arith)))
 
@@ -295,43 +295,12 @@ bit_of ps at i t from to h =
     let low : i % 64 ≡ i - at / 64 * 64 = omega arith in
     ap₂ (λ k j. in_word (word_at ps k) j) here low ∙ h
 
--- the next bits are found, where there are any in the word
-pub set_found : (ps : List (List ℕ)) (at from to : ℕ) → at < length ps * 32768 → at % 64 ≤ from → from ≤ to → to ≤ 64
-    → ((i : ℕ) → at % 64 ≤ i → i < from → in_word (word_at ps (at / 64)) i ≡ false)
-    → ((i : ℕ) → from ≤ i → i < to → in_word (word_at ps (at / 64)) i ≡ true)
-    → bits_left ps at ≡ count_up (at / 64 * 64 + from) (to - from) ++ bits_left ps (at / 64 * 64 + to)
-set_found ps at from to inside a b c unset set =
-    let low : ℕ = at / 64 * 64 in
-    let here : low + at % 64 ≡ at = omega arith in
-    let width : low + to - (low + from) ≡ to - from = omega arith in
-    bits_step (has_bit ps) (length ps * 32768) at (low + from) (low + to) (omega arith) (omega arith) (omega arith)
-    (λ i lo hi. bit_of ps at i false (omega arith) (omega arith) (unset (i - low) (omega arith) (omega arith)))
-    (λ i lo hi. bit_of ps at i true (omega arith) (omega arith) (set (i - low) (omega arith) (omega arith)))
-    ∙ ap (λ n. count_up (low + from) n ++ bits_left ps (low + to)) width
-
 -- no bit is set from a place on up to the word of this index
 pub none_before : (ps : List (List ℕ)) (at next p : ℕ) → at / 64 < next → ((i : ℕ) → at % 64 ≤ i → i < 64 → in_word (word_at ps (at / 64)) i ≡ false)
     → ((q : ℕ) → at / 64 < q → q < next → word_at ps q ≡ 0) → at ≤ p → p < next * 64 → has_bit ps p ≡ false
 none_before ps at next p more unset none from to = elim (cases_lt (at / 64) (p / 64)) [
   | inl behind ↦ no_bit ps p (none (p / 64) behind (omega arith))
   | inr here ↦ let low : ℕ = at / 64 * 64 in bit_of ps at p false (omega arith) (omega arith) (unset (p - low) (omega arith) (omega arith))
-]
-
--- words without bits are passed over
-pub none_found : (ps : List (List ℕ)) (at next : ℕ) → at < length ps * 32768 → at / 64 < next → ((i : ℕ) → at % 64 ≤ i → i < 64 → in_word (word_at ps (at / 64)) i ≡ false)
-    → ((q : ℕ) → at / 64 < q → q < next → word_at ps q ≡ 0) → bits_left ps at ≡ bits_left ps (next * 64)
-none_found ps at next inside more unset none = elim (cases_lt (next * 64) (length ps * 32768)) [
-  | inl lt ↦
-      let nothing : next * 64 - next * 64 ≡ 0 = omega arith in
-      bits_step (has_bit ps) (length ps * 32768) at (next * 64) (next * 64) (omega arith) (omega arith) (omega arith)
-      (λ i lo hi. none_before ps at next i more unset none lo hi) (λ i lo hi. absurd (omega (arith, lo, hi)))
-      ∙ ap (λ n. count_up (next * 64) n ++ bits_left ps (next * 64)) nothing
-  | inr ge ↦
-      let n : ℕ = length ps * 32768 in
-      let nothing : n - n ≡ 0 = omega arith in
-      bits_step (has_bit ps) n at n n (omega arith) (omega arith) (omega arith)
-      (λ i lo hi. none_before ps at next i more unset none lo (omega arith)) (λ i lo hi. absurd (omega (arith, lo, hi)))
-      ∙ ap (λ m. count_up n m ++ bits_left ps n) nothing ∙ bits_none ps n (omega arith) ∙ sym (bits_none ps (next * 64) ge)
 ]
 
 -- ---- grids of a walk

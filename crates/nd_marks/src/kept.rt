@@ -1,14 +1,15 @@
 //! `KeptBytes`: bytes of a block at marked byte offsets, kept without the block.
 
 ghost use Rattle.std.specs.Prelude.{◌≡◌, ℕ, ◌+◌, ◌-◌, ◌^◌, ◌<◌, ◌≤◌, ◌++◌, ◌&&◌, ◌↔◌, if◌then◌else◌, ◌/◌, ◌%◌, false, is_some, IfOk, IsTrue, MatchOption, None, OnOk, Option, Some, length, map, nat_le, nat_lt, slice_index, unwrap_or};
-ghost use Rattle.nd_marks.specs.Kept.{byte_for, grids_places, is_few, kept_at, lines_left, places_in, rows_left};
-ghost use Rattle.nd_marks.specs.Marks.{holds, in_word};
+ghost use Rattle.nd_marks.specs.Kept.{bits_left, byte_for, grids_places, is_few, kept_at, lines_left, places_in, rows_left};
+ghost use Rattle.nd_marks.specs.Marks.{holds, in_word, pages_of};
 ghost use Rattle.nd_model.specs.Arrays.Tuple.{count_up};
 
 use crate::bytes::{append_row, append_rows, byte_at};
 use crate::grid::Grid;
 use crate::marks::Marks;
 use crate::strip::Strip;
+use crate::walk::next_bits;
 use std::alloc::{AllocError, Global};
 use std::marker::Model;
 
@@ -99,18 +100,26 @@ fn append_grids(bytes: &mut Vec<u8>, block: &[u8], grids: &[Grid]) -> Result<(),
     Ok(())
 }
 
-/// The bytes of a block at the byte offsets of a walk over a set. The rows of grids are appended by
-/// a loop of their own, and what bits mark by the walk.
+/// Appends the bytes at all set bits, a run of them at a time.
+fn append_bits(bytes: &mut Vec<u8>, block: &[u8], pages: &[Vec<u64>]) -> Result<(), AllocError>
+    ensures { OnOk result (bytes.new.items
+        ≡ bytes.old.items ++ map (slice_index block.now) (bits_left (pages_of pages.now) 0)) }
+{
+    let mut at = 0;
+    while let Some(range) = next_bits(pages, &mut at) {
+        append_range(bytes, block, range.from, range.width)?;
+    }
+    Ok(())
+}
+
+/// The bytes of a block at the byte offsets of a walk over a set.
 fn gather(alloc: Global, marks: &Marks, block: &[u8], count: usize) -> Result<Vec<u8>, AllocError>
     ensures { IfOk result (λ v. v.items ≡ map (slice_index block.now) (places_in marks.now)) }
 {
     let mut bytes = Vec::with_capacity(alloc, count)?;
     append_grid(&mut bytes, block, marks.last())?;
     append_grids(&mut bytes, block, marks.grids())?;
-    let mut walk = marks.bits();
-    while let Some(range) = walk.next() {
-        append_range(&mut bytes, block, range.from, range.width)?;
-    }
+    append_bits(&mut bytes, block, marks.pages())?;
     Ok(bytes)
 }
 

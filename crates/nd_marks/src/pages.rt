@@ -6,7 +6,7 @@ use std::alloc::{AllocError, Global};
 use std::mem;
 
 /// Bits by pages of 4 KB, each for 32,768 byte offsets. A page has words up to the last in which a bit
-/// was set, 512 at most.
+/// was set, by 64 at a time, and 512 at most.
 pub(crate) type Pages = Vec<Vec<u64>>;
 
 /// The most words of a page.
@@ -14,6 +14,9 @@ pub(crate) const WORDS: usize = 512;
 
 /// The byte offsets for which a page has bits.
 pub(crate) const PLACES: u128 = 32_768;
+
+// A page grows by this many words at a time.
+const MORE_WORDS: usize = 64;
 
 // The entry of a page in the list of pages takes as much memory as this many words.
 const WORDS_OF_ENTRY: usize = 3;
@@ -28,8 +31,9 @@ fn word_in(words: &[u64], at: usize) -> u64
     }
 }
 
-/// The words of the page of this index, none past the last page.
-fn page_of(pages: &[Vec<u64>], page: u128) -> &[u64]
+/// Returns the words of the page of this index, none past the last page.
+#[inline(always)]
+pub(crate) fn page_of(pages: &[Vec<u64>], page: u128) -> &[u64]
     ensures { result.now ≡ page_at (pages_of pages.now) page }
 {
     if page >= pages.len() as u128 {
@@ -111,6 +115,13 @@ fn fill_page(words: &mut Vec<u64>, count: usize) -> Result<(), AllocError>
     Ok(())
 }
 
+/// The number of words that a page grows to, so that it has `count`.
+fn rounded_up(count: usize) -> usize
+    ensures { count ≤ result }
+{
+    count.div_ceil(MORE_WORDS).saturating_mul(MORE_WORDS)
+}
+
 /// Makes the first `count` words of the page of this index. No bit is set.
 fn new_page(pages: &mut Pages, page: u64, count: usize) -> Result<(), AllocError>
     requires { page < 2 ^ 60 }
@@ -120,7 +131,8 @@ fn new_page(pages: &mut Pages, page: u64, count: usize) -> Result<(), AllocError
     ensures room { OnOk result (count ≤ length (page_at (pages_of pages.new.items) page)) }
 {
     extend_pages(pages, page + 1)?;
-    fill_page(&mut pages[page as usize], count)
+    fill_page(&mut pages[page as usize], rounded_up(count))?;
+    Ok(())
 }
 
 /// Makes the first `count` words of the page of this index, as far as they are not there.

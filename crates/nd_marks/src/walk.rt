@@ -1,11 +1,13 @@
 //! `Walk`: a walk over the byte offsets of a set, a range at a time.
 
 ghost use Rattle.std.specs.Prelude.{◌≡◌, ℕ, ◌+◌, ◌-◌, ◌*◌, ◌^◌, ◌<◌, ◌≤◌, ◌&&◌, ◌++◌, [], false, true, length, min, nat_le, nat_lt, IfSome, MatchOption};
+ghost use Rattle.std.specs.List.{filter};
+ghost use Rattle.nd_model.specs.Arrays.Tuple.{count_up};
 ghost use Rattle.nd_marks.specs.Kept.{IsNext, bits_left, grids_places, lines_left, places_in, rows_left};
-ghost use Rattle.nd_marks.specs.Marks.{in_word, pages_of, Places};
+ghost use Rattle.nd_marks.specs.Marks.{in_page, in_word, pages_of, Places};
 
 use crate::grid::Grid;
-use crate::pages::{PLACES, next_index, word_of};
+use crate::pages::{PLACES, WORDS, page_of};
 use crate::strip::Strip;
 use std::marker::Model;
 
@@ -97,24 +99,54 @@ pub(crate) fn next_set(word: u64, bit: u64) -> SetBits
     }
 }
 
-/// The next bits that are set, from number `at` on, `None` where no more are set.
-fn next_bits(pages: &[Vec<u64>], at: &mut u128) -> Option<ByteRange>
+/// The next bits of a page that are set, from bit `bit` on, in one word. At its end there are none.
+#[inline(always)]
+fn next_in_page(words: &[u64], bit: u64) -> SetBits
+    requires { bit < 32768 }
+    ensures order { (bit ≤ result.from) × ((result.from ≤ result.to) × (result.to ≤ 32768)) }
+    ensures unset { (i : ℕ) → bit ≤ i → i < result.from → in_page words.now i ≡ false }
+    ensures set { (i : ℕ) → result.from ≤ i → i < result.to → in_page words.now i ≡ true }
+    ensures end { result.to ≤ result.from → result.to ≡ 32768 }
+{
+    let end = words.len().min(WORDS);
+    let mut at = bit;
+    while ((at / 64) as usize) < end {
+        let low = at / 64 * 64;
+        let set = next_set(words[(at / 64) as usize], at % 64);
+        if set.from < set.to {
+            return SetBits {
+                from: low + set.from,
+                to: low + set.to,
+            };
+        }
+        at = low + 64;
+    }
+    SetBits {
+        from: PLACES as u64,
+        to: PLACES as u64,
+    }
+}
+
+/// Returns the next bits that are set, from number `at` on, in one word, or `None` where no more are.
+pub(crate) fn next_bits(pages: &[Vec<u64>], at: &mut u128) -> Option<ByteRange>
     ensures { MatchOption result ((bits_left (pages_of pages.now) at.old ≡ [])
         × (bits_left (pages_of pages.now) at.new ≡ []))
-        (λ r. IsNext (bits_left (pages_of pages.now) at.old) r.from r.width (bits_left (pages_of pages.now) at.new)) }
+        (λ r. IsNext (bits_left (pages_of pages.now) at.old) r.from r.width
+        (bits_left (pages_of pages.now) at.new)) }
 {
     let end = pages.len() as u128 * PLACES;
     while *at < end {
-        let index = *at / 64;
-        let set = next_set(word_of(pages, index), (*at % 64) as u64);
+        let page = *at / PLACES;
+        let low = page * PLACES;
+        let set = next_in_page(page_of(pages, page), (*at % PLACES) as u64);
         if set.from < set.to {
-            *at = index * 64 + u128::from(set.to);
+            *at = low + u128::from(set.to);
             return Some(ByteRange {
-                from: index * 64 + u128::from(set.from),
+                from: low + u128::from(set.from),
                 width: set.to - set.from,
             });
         }
-        *at = next_index(pages, index) * 64;
+        *at = low + PLACES;
     }
     None
 }
@@ -138,17 +170,24 @@ fn count_grids(grids: &[Grid], most: u64) -> u64
     count
 }
 
+/// The number of bits of a page that are set.
+fn count_page(words: &[u64]) -> u64
+    ensures { result ≡ length (filter (in_page words.now) (count_up 0 32768)) }
+{
+    let mut count = 0;
+    for at in 0..words.len().min(WORDS) {
+        count += u64::from(words[at].count_ones());
+    }
+    count
+}
+
 /// The number of bits that are set, or `most` where there are more.
 fn count_bits(pages: &[Vec<u64>], most: u64) -> u64
     ensures { result ≡ min (length (bits_left (pages_of pages.now) 0)) most }
 {
     let mut count = 0;
-    let mut at = 0;
-    while count < most {
-        let Some(range) = next_bits(pages, &mut at) else {
-            return count;
-        };
-        count = range.width.saturating_add(count).min(most);
+    for page in pages {
+        count = count_page(page.as_slice()).saturating_add(count).min(most);
     }
     count
 }
@@ -194,13 +233,6 @@ impl<'m> Walk<'m> {
             pages,
             bit: 0,
         }
-    }
-
-    /// A walk over bits alone.
-    pub(crate) fn of_bits(pages: &'m [Vec<u64>]) -> Walk<'m>
-        ensures { result ≡ bits_left (pages_of pages.now) 0 }
-    {
-        Walk::new(&Grid::empty(), &[], pages)
     }
 
     /// The next range, at least one byte offset, or `None` where none is left.

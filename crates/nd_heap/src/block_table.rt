@@ -172,7 +172,8 @@ impl BlockTable {
         Ok(())
     }
 
-    /// Writes to a block, and nothing where there is no such block. A block that is shared is copied first.
+    /// Writes to a block, and nothing where there is no such block. One that is shared gives way to a
+    /// block of its own.
     pub(crate) fn write<W: BlockWriter + Drop>(
         &mut self,
         base: Base,

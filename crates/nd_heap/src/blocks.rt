@@ -18,6 +18,7 @@ use crate::writer::BlockWriter;
 use indexmap::IndexMap;
 use nd_block::RawBlock;
 use nd_memory::OutOfMemory;
+use std::alloc::Global;
 use std::rc::Rc;
 
 /// Blocks by their bases. A copy shares each of them.
@@ -59,7 +60,40 @@ fn put_block(blocks: &mut Blocks, base: Base, block: Rc<RawBlock>) -> Result<(),
     Ok(())
 }
 
-/// Writes to a block, and nothing where there is no such block. A block that is shared is copied first.
+/// Puts a block that has what is written in the place of one that is shared.
+fn replace<W: BlockWriter + Drop>(
+    alloc: Global,
+    shared: &mut Rc<RawBlock>,
+    writer: W,
+) -> Result<(), OutOfMemory>
+    ensures ok { OnOk result (shared.new.value ≡ W.written writer shared.old.value) }
+    ensures err { OnErr result (shared.new.value ≡ shared.old.value) }
+{
+    let block = writer.write_copy(alloc, Rc::as_ref(shared))?;
+    *shared = Rc::new(alloc, block)?;
+    Ok(())
+}
+
+/// Writes to a block. One that is shared gives way to a block of its own.
+fn rewrite<W: BlockWriter + Drop>(
+    alloc: Global,
+    shared: &mut Rc<RawBlock>,
+    writer: W,
+) -> Result<(), OutOfMemory>
+    ensures ok { OnOk result (shared.new.value ≡ W.written writer shared.old.value) }
+    ensures err { OnErr result (shared.new.value ≡ shared.old.value) }
+{
+    match Rc::get_mut(shared) {
+        Some(block) => {
+            writer.write(block);
+            Ok(())
+        }
+        None => replace(alloc, shared, writer),
+    }
+}
+
+/// Writes to a block, and nothing where there is no such block. One that is shared gives way to a block
+/// of its own.
 pub(crate) fn write_block<W: BlockWriter + Drop>(
     blocks: &mut Blocks,
     base: Base,
@@ -74,11 +108,11 @@ pub(crate) fn write_block<W: BlockWriter + Drop>(
     ensures bases { (b : values.Base) → is_block_among (blocks_of blocks.new.entries) b
         ≡ is_block_among (blocks_of blocks.old.entries) b }
 {
+    let alloc = *blocks.allocator();
     let Some(shared) = blocks.get_mut(&base) else {
         return Ok(());
     };
-    let block = Rc::make_mut(shared)?;
-    writer.write(block);
+    rewrite(alloc, shared, writer)?;
     Ok(())
 }
 

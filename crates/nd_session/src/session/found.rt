@@ -12,7 +12,7 @@ use indexmap::IndexMap;
 use nd_block::RawBlock;
 use nd_heap::{Base, BlockWriter, OutOfMemory};
 use nd_marks::{KeptBytes, Marks};
-use std::alloc::Global;
+use std::alloc::{AllocError, Global};
 use std::rc::Rc;
 
 /// The bytes at marked byte offsets of a block as it was. Where they are fewer than a quarter of the
@@ -174,6 +174,12 @@ impl<'f> BlockWriter for FoundWriter<'f> {
         self.found.patch(block.as_mut_slice());
     }
 
+    fn write_copy(&self, _: Global, block: &RawBlock) -> Result<RawBlock, AllocError> {
+        let mut copy = block.try_clone()?;
+        self.found.patch(copy.as_mut_slice());
+        Ok(copy)
+    }
+
     ghost keeps_length = { λ w bytes. length-patched (found_at (bytes_of w.found.now)) bytes };
 }
 
@@ -192,6 +198,12 @@ impl<'p> BlockWriter for PartWriter<'p> {
 
     fn write(self, block: &mut RawBlock) {
         self.part.patch(block.as_mut_slice());
+    }
+
+    fn write_copy(&self, _: Global, block: &RawBlock) -> Result<RawBlock, AllocError> {
+        let mut copy = block.try_clone()?;
+        self.part.patch(copy.as_mut_slice());
+        Ok(copy)
     }
 
     ghost keeps_length = { λ w bytes. length-patched (kept_at w.part.now) bytes };

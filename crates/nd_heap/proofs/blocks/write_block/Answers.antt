@@ -16,25 +16,23 @@ returns-in_default-clause-ok g c = ap (λ m. bytes_at (blocks_of m.entries)) c.g
 pub returns-in_default-clause-bases : goal.returns-in_default-clause-bases
 returns-in_default-clause-bases g c = λ b. ap (λ m. is_block_among (blocks_of m.entries) b) c.get_mut.follows.holds-at-none
 
-pub returns-in_err-block-clause-err : goal.returns-in_err-block-clause-err
-returns-in_err-block-clause-err g c =
+pub returns-in_err-rewrite-clause-err : goal.returns-in_err-rewrite-clause-err
+returns-in_err-rewrite-clause-err g c =
     let es = c.args.blocks.now.entries in
-    let last = c.make_mut.follows.lender-at-none in
-    let is : last.value ≡ c.in-Some.shared.now.value = ⊎_elim (λ e. e) (λ e. e) (at_err _ _ c.in_err-block.was c.make_mut.follows.holds-at-none) in
+    let last = c.rewrite.new.shared in
     on_err _ (written_block c.args.base c.in-Some.shared.now last es _ (c.get_mut.follows.holds last).0 c.in-Some.ensures.value
-    ∙ same_block (base_of c.args.base) last.value (bytes_at (blocks_of es)) (is ∙ ap found_bytes c.in-Some.ensures.value ∙ sym (found_block c.args.base es)))
+    ∙ same_block (base_of c.args.base) last.value (bytes_at (blocks_of es)) (c.in_err-rewrite.ensures.err ∙ ap found_bytes c.in-Some.ensures.value ∙ sym (found_block c.args.base es)))
 
-pub returns-in_err-block-clause-bases : goal.returns-in_err-block-clause-bases
-returns-in_err-block-clause-bases g c = among_written c.args.base c.make_mut.follows.lender-at-none c.args.blocks.now.entries _ (c.get_mut.follows.holds c.make_mut.follows.lender-at-none).0
+pub returns-in_err-rewrite-clause-bases : goal.returns-in_err-rewrite-clause-bases
+returns-in_err-rewrite-clause-bases g c = among_written c.args.base c.rewrite.new.shared c.args.blocks.now.entries _ (c.get_mut.follows.holds c.rewrite.new.shared).0
 
 pub returns-clause-ok : goal.returns-clause-ok
 returns-clause-ok g c =
     let es = c.args.blocks.now.entries in
-    let last = c.make_mut.follows.lender c.write.new.block in
-    let first : c.in_ok-block.block.now ≡ c.in-Some.shared.now.value = ⊎_elim (λ e. e) (λ e. e) c.in_ok-block.ensures.value in
+    let last = c.rewrite.new.shared in
     let was : c.in-Some.shared.now.value ≡ bytes_at (blocks_of es) (base_of c.args.base) = ap found_bytes c.in-Some.ensures.value ∙ sym (found_block c.args.base es) in
     written_block c.args.base c.in-Some.shared.now last es _ (c.get_mut.follows.holds last).0 c.in-Some.ensures.value
-    ∙ ap (λ bytes. running.with_base (base_of c.args.base) bytes (bytes_at (blocks_of es))) (c.make_mut.follows.holds c.write.new.block (ap is_ok c.in_ok-block.was) ∙ c.write.ensures ∙ ap (g.W.BlockWriter.written c.args.writer) (first ∙ was))
+    ∙ ap (λ bytes. running.with_base (base_of c.args.base) bytes (bytes_at (blocks_of es))) (c.in_ok-rewrite.ensures.ok ∙ ap (g.W.BlockWriter.written c.args.writer) was)
 
 pub returns-clause-bases : goal.returns-clause-bases
-returns-clause-bases g c = among_written c.args.base (c.make_mut.follows.lender c.write.new.block) c.args.blocks.now.entries _ (c.get_mut.follows.holds (c.make_mut.follows.lender c.write.new.block)).0
+returns-clause-bases g c = among_written c.args.base c.rewrite.new.shared c.args.blocks.now.entries _ (c.get_mut.follows.holds c.rewrite.new.shared).0

@@ -9,5 +9,6 @@ pub mod Nearer
 pub mod Parted
 pub mod Placed
 pub mod Readied
+pub mod Rewritten
 pub mod SameTypes
 pub mod Stretched

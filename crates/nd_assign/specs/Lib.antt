@@ -4,6 +4,7 @@ pub mod Copies
 pub mod Grids
 pub mod HeldFields
 pub mod KeptLength
+pub mod Overwritten
 pub mod Prepared
 pub mod Sources
 pub mod Stretched

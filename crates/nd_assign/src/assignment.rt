@@ -1,15 +1,17 @@
 //! `Assignment`: a prepared assignment, whose write takes no memory.
-ghost use Rattle.std.specs.Prelude.{◌≡◌, Some, length, true};
+ghost use Rattle.std.specs.Prelude.{◌≡◌, Some, length, true, IfOk, IfSome};
 ghost use Rattle.nd_model.specs.Making.Conversion.{converts};
 ghost use Rattle.nd_assign.specs.Prepared.{written_by};
 ghost use Rattle.nd_assign.specs.Ways.{AreIn, IsPrepared, bytes_read};
 
 use crate::gapless::move_gapless;
+use crate::rewriting::{convert_to_block, overwriting_dtypes};
 use crate::views::copy_views;
 use crate::within::{copy_down, copy_up};
 use nd_block::RawBlock;
 use nd_types::Elem;
 use nd_view::{Run, View};
+use std::alloc::{AllocError, Global};
 use std::marker::Model;
 
 /// Where the elements are read, and how they get to the target.
@@ -28,6 +30,20 @@ pub(crate) enum Way<'v> {
     Up(usize, View),
     /// In the block, from above a byte offset to below it: the source is counted from there.
     Down(usize, View),
+}
+
+impl<'v> Way<'v> {
+    // The bytes that are read where these are not the block's, and `None` where they are.
+    fn other_bytes(&self) -> Option<&[u8]>
+        ensures { IfSome result (λ bytes. bytes_read self.now ≡ Some bytes.now) }
+    {
+        match self {
+            Way::Lent(read) => Some(read),
+            Way::Number(read) => Some(read),
+            Way::Copied(read) => Some(read.as_slice()),
+            _ => None,
+        }
+    }
 }
 
 /// A prepared assignment: writing it takes no memory. A clause sees the views of target and source,
@@ -107,5 +123,25 @@ impl<'v> Assignment<'v> {
             Way::Up(middle, target) => copy_up(bytes, *middle, target, source),
             Way::Down(middle, source) => copy_down(bytes, *middle, target, source),
         }
+    }
+
+    /// Returns what `write` leaves of a block, as a block of its own. An error means want of memory
+    /// for that block, the one allocation.
+    ///
+    /// Old bytes are not copied where other numbers overwrite all of them in C order, as in
+    /// `x[:] = 0` or `x[:] = row`. Otherwise the block is copied and written to.
+    pub fn write_copy(&self, alloc: Global, block: &RawBlock) -> Result<RawBlock, AllocError>
+        ensures { IfOk result (λ b. b ≡ written_by self.now block.now) }
+    {
+        if block.len() == self.len {
+            if let Some(dtypes) = overwriting_dtypes(self.target, &self.source, self.len) {
+                if let Some(bytes) = self.way.other_bytes() {
+                    return convert_to_block(alloc, dtypes, bytes, &self.source);
+                }
+            }
+        }
+        let mut copy = block.try_clone()?;
+        self.write(&mut copy);
+        Ok(copy)
     }
 }

@@ -10,8 +10,8 @@ ghost use Rattle.nd_view.specs.SideBySide.{side_by_side};
 use nd_types::Elem;
 use nd_view::Run;
 
-// The byte offset at which a contiguous run ends.
-fn end_of(run: &Run, elem: Elem, bytes: &[u8]) -> usize
+/// Returns the byte offset at which a contiguous run ends.
+pub(crate) fn end_of(run: &Run, elem: Elem, bytes: &[u8]) -> usize
     requires held { AreHeld elem bytes.now run.now }
     requires gapless { run.now ≡ side_by_side (size_of elem.kind) (slice_index run.now 0)
         (length run.now) }

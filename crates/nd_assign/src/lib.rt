@@ -12,6 +12,7 @@ mod kernel;
 mod moved;
 mod pairs;
 mod preparation;
+mod rewriting;
 mod shape;
 mod source;
 mod stretch;

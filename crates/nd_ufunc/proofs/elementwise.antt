@@ -4,12 +4,14 @@ pub mod Augmented
 pub mod Besides
 pub mod Common
 pub mod Directed
+pub mod Filled
 pub mod Gapless
 pub mod Given
 pub mod KeptOff
 pub mod Mapped
 pub mod Overwritten
 pub mod Rows
+pub mod Shifted
 pub mod Spreads
 pub mod Standing
 pub mod Taken

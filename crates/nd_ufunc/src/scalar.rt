@@ -19,6 +19,6 @@ pub use kinds::{Sort, result_kind, sort_of};
 pub use powers::exact_power;
 pub(crate) use powers::power;
 pub use scalars::{is_power_below, scalar1, scalar2, whole_number};
-pub(crate) use shifts::{left_shift, right_shift};
+pub(crate) use shifts::{left_shift, right_shift, shift_factor};
 pub(crate) use table::apply_single;
 pub use ufunc::{BinaryUfunc, Single};

@@ -1,5 +1,5 @@
 //! `Beside`: the right operand of an operator whose target is written while operands are read.
-ghost use Rattle.std.specs.Prelude.{◌≡◌, ◌≢◌, ℕ, List, ◌+◌, ◌*◌, ◌<◌, ◌≤◌, ◌++◌, length, drop, None, true, IfSome, IsTrue, ◌↔◌};
+ghost use Rattle.std.specs.Prelude.{◌≡◌, ◌≢◌, ℕ, List, ◌+◌, ◌*◌, ◌<◌, ◌≤◌, ◌++◌, length, drop, None, true, IfOk, IfSome, IsTrue, ◌↔◌};
 ghost use Rattle.nd_model.specs.Arrays.Broadcast.{broadcast_view, broadcasts_to};
 ghost use Rattle.nd_model.specs.Arrays.Element as element;
 ghost use Rattle.nd_model.specs.Making.Elementwise.{operand_sort};
@@ -12,6 +12,7 @@ ghost use Rattle.nd_ufunc.specs.Elementwise.Beside.{HeldBeside, IsBeside, IsFixe
 ghost use Rattle.nd_ufunc.specs.Elementwise.Beside.{IsOtherBeside, IsOwnBeside, KeepsOffBroadcast};
 ghost use Rattle.nd_ufunc.specs.Elementwise.Beside.{beside_numbers, left_beside, size_beside};
 ghost use Rattle.nd_ufunc.specs.Elementwise.Prepared.{IsRightSide, right_operand};
+ghost use Rattle.nd_ufunc.specs.Elementwise.Stretched.{IsHeld, stretched_numbers};
 ghost use Rattle.nd_ufunc.specs.Loops.Sides.{HasNumbers, numbers_on};
 
 use crate::elementwise::apart::{spread_keeps_off, view_keeps_off};
@@ -23,7 +24,7 @@ use crate::loops::{CHUNK, Feed, ROOM, Side};
 use crate::scalar::whole_number;
 use nd_types::{Elem, ElemType, Kind};
 use nd_view::{View, element_count};
-use std::alloc::Global;
+use std::alloc::{AllocError, Global};
 
 /// The right operand, broadcast to the target's shape: numbers that no write to the target changes,
 /// or elements of the target's own block. A view of the target's shape is borrowed, and one of many
@@ -132,6 +133,29 @@ impl<'v> Beside<'v> {
                 let kind = side_kind(kind, elem.kind());
                 LeftBeside::OwnSpread(SpreadElements::new(view, shape, *elem, kind))
             }
+        }
+    }
+
+    /// Returns the operand as results of a new array are worked out from it, where the target's
+    /// block has these bytes. `None` where it is walked in the target's shape. An error means want
+    /// of memory.
+    pub(crate) fn stretched<'b>(
+        &'b self,
+        block: &'b [u8],
+    ) -> Result<Option<Stretched<'b>>, AllocError>
+        requires { IsBeside self.now (length block.now) }
+        ensures held { IfOk result (λ found. IfSome found IsHeld) }
+        ensures numbers { IfOk result (λ found. IfSome found (λ s. (count : ℕ)
+            → stretched_numbers s count ≡ beside_numbers self.now count block.now)) }
+    {
+        match self {
+            Beside::Fixed(numbers) => Ok(Some(numbers.try_clone()?)),
+            Beside::FixedAlike(view, elem, bytes) => {
+                Ok(Some(Stretched::of_view(view, *elem, bytes)?))
+            }
+            Beside::Own(view, elem) => Ok(Some(Stretched::of_view(view, *elem, block)?)),
+            Beside::OwnAlike(view, elem) => Ok(Some(Stretched::of_view(view, *elem, block)?)),
+            Beside::FixedSpread(_, _, _, _) | Beside::OwnSpread(_, _, _) => Ok(None),
         }
     }
 

@@ -1,6 +1,6 @@
 //! `Direct`: an operator in place that writes results as they are worked out, without a temporary
 //! array.
-ghost use Rattle.std.specs.Prelude.{◌≡◌, ◌≢◌, ℕ, List, None, Ok, length, slice_index, IfSome, IsSome};
+ghost use Rattle.std.specs.Prelude.{◌≡◌, ◌≢◌, ℕ, List, None, Ok, length, slice_index, IfOk, IfSome, IsSome, IsTrue, ◌↔◌};
 ghost use Rattle.nd_model.specs.Making.Augmenting as augmenting;
 ghost use Rattle.nd_model.specs.Arrays.Element.{size_of};
 ghost use Rattle.nd_model.specs.Arrays.Tuple.{elements_of};
@@ -15,20 +15,25 @@ ghost use Rattle.nd_ufunc.specs.Elementwise.Arguments.{numbers_beside};
 ghost use Rattle.nd_ufunc.specs.Elementwise.Beside.{IsBeside, IsFixedHeld, KeepsOffTarget, beside_numbers};
 ghost use Rattle.nd_ufunc.specs.Elementwise.Directness.{IsGapless};
 ghost use Rattle.nd_ufunc.specs.Elementwise.Prepared.{right_operand, with_results, written_directly};
+ghost use Rattle.nd_ufunc.specs.Elementwise.Stretched.{IsHeld};
+ghost use Rattle.nd_ufunc.specs.Elementwise.WaysDirect.{FillsBlock, IsRightOf};
 ghost use Rattle.nd_ufunc.specs.Loops.Results.{binary_result};
 
 use crate::elementwise::apart::is_gapless;
 use crate::elementwise::beside::Beside;
 use crate::elementwise::in_place::RightSide;
 use crate::elementwise::replacing::replace_numbers;
-use crate::elementwise::results::operand_kind;
+use crate::elementwise::results::{binary_results, operand_kind};
+use crate::elementwise::stretched::Stretched;
 use crate::loops::operation::Operation;
 use crate::loops::{CHUNK, ROOM, operation as functions};
+use crate::scalar::BinaryUfunc;
 use nd_block::RawBlock;
+use nd_element::is_elem;
 use nd_syntax::trees::BinaryOp;
 use nd_types::{Elem, ElemType, Kind};
 use nd_view::{Run, View};
-use std::alloc::Global;
+use std::alloc::{AllocError, Global};
 use std::marker::Model;
 
 /// An operator in place whose target is written while operands are read.
@@ -120,6 +125,72 @@ impl<'v> Direct<'v> {
     {
         if block.len() == self.len {
             self.replace_all(block.as_mut_slice());
+        }
+    }
+}
+
+// The results as a new block, where they are all bytes of the old one.
+impl<'v> Direct<'v> {
+    // Whether the results are all bytes of the block, and are written in their own dtype.
+    fn fills_block(&self) -> bool
+        ensures { IsTrue result ↔ FillsBlock self.now }
+    {
+        is_elem(self.elem, Elem::little(self.kind))
+            && self.target.offset() == 0
+            && self.target.count() * self.elem.size() as usize == self.len
+    }
+
+    // The right operand for results that are all bytes of a block. `None` where they are not, or
+    // the operand is walked in the target's shape.
+    fn right_of_block<'b>(&'b self, block: &'b [u8]) -> Result<Option<Stretched<'b>>, AllocError>
+        ensures fills { IfOk result (λ found. IsSome found → FillsBlock self.now) }
+        ensures len { IfOk result (λ found. IsSome found → length block.now ≡ self.now.len) }
+        ensures held { IfOk result (λ found. IfSome found IsHeld) }
+        ensures right { IfOk result (λ found. IfSome found (IsRightOf self.now block.now)) }
+    {
+        if block.len() != self.len || !self.fills_block() {
+            return Ok(None);
+        }
+        self.beside.stretched(block)
+    }
+
+    // The results for a block, which are all its bytes.
+    fn results(
+        &self,
+        alloc: Global,
+        block: &[u8],
+        right: &Stretched<'_>,
+    ) -> Result<RawBlock, AllocError>
+        requires fills { FillsBlock self.now }
+        requires len { length block.now ≡ self.now.len }
+        requires held { IsHeld right.now }
+        requires right { IsRightOf self.now block.now right.now }
+        ensures { IfOk result (λ b. b ≡ written_directly self.now block.now) }
+    {
+        let ufunc = BinaryUfunc::Operator(self.op);
+        let count = self.target.count();
+        let left = Stretched::of_view(self.target, self.elem, block)?;
+        binary_results(alloc, ufunc, self.kind, &left, right, count)
+    }
+
+    // A copy of the block, to which the results are written.
+    fn copy_block(&self, block: &RawBlock) -> Result<RawBlock, AllocError>
+        ensures { IfOk result (λ b. b ≡ written_directly self.now block.now) }
+    {
+        let mut copy = block.try_clone()?;
+        self.write(&mut copy);
+        Ok(copy)
+    }
+
+    /// Returns what [`Direct::write`] leaves of a block, as a block of its own. Results that are all
+    /// bytes of it are appended to the new block. An error means want of memory.
+    pub(crate) fn write_copy(&self, alloc: Global, block: &RawBlock) -> Result<RawBlock, AllocError>
+        ensures { IfOk result (λ b. b ≡ written_directly self.now block.now) }
+    {
+        let right = self.right_of_block(block.as_slice())?;
+        match &right {
+            Some(right) => self.results(alloc, block.as_slice(), right),
+            None => self.copy_block(block),
         }
     }
 }

@@ -92,6 +92,20 @@ impl<'v> InPlace<'v> {
             Way::Directly(direct) => direct.write(block),
         }
     }
+
+    /// Returns what [`InPlace::write`] leaves of a block, as a block of its own. A block of another
+    /// length is copied as it is. An error means want of memory.
+    ///
+    /// Results that are all bytes of the block are appended to the new one, and the old one is read
+    /// once. Then `x += 1` costs what `x + 1` does.
+    pub fn write_copy(&self, alloc: Global, block: &RawBlock) -> Result<RawBlock, AllocError>
+        ensures { IfOk result (λ b. b ≡ written_in_place self.now block.now) }
+    {
+        match &self.way {
+            Way::Found(assignment) => assignment.write_copy(alloc, block),
+            Way::Directly(direct) => direct.write_copy(alloc, block),
+        }
+    }
 }
 
 // Whether results of a kind may be written to elements of a dtype (NumPy's casting rule

@@ -1,6 +1,6 @@
 //! `binary_results` and `single_results`: the block of a function's results, whose loops are chosen
 //! once.
-ghost use Rattle.std.specs.Prelude.{◌≡◌, ◌≢◌, ◌*◌, ◌^◌, ◌≤◌, IfOk};
+ghost use Rattle.std.specs.Prelude.{◌≡◌, ◌≢◌, ◌*◌, ◌^◌, ◌≤◌, replicate, IfOk};
 ghost use Rattle.nd_model.specs.Arrays.Element.{size_of};
 ghost use Rattle.nd_model.specs.Making.Elementwise.{little, single_number};
 ghost use Rattle.nd_model.specs.Making.Operators as operators;
@@ -15,7 +15,7 @@ ghost use Rattle.nd_ufunc.specs.Elementwise.Stretched.{HasCount, IsHeld, stretch
 use crate::elementwise::stretched::Stretched;
 use crate::loops::operation::Operation;
 use crate::loops::{Feed, ROOM, fill, operation as functions};
-use crate::scalar::{BinaryUfunc, Single};
+use crate::scalar::{BinaryUfunc, Single, shift_factor};
 use nd_block::{Filling, RawBlock};
 use nd_syntax::trees::{BinaryOp, UnaryOp};
 use nd_types::{Kind, promote};
@@ -82,6 +82,59 @@ fn results<O: Operation>(
     Ok(out.finish())
 }
 
+// The block with the products of `count` numbers and one factor.
+fn products(
+    alloc: Global,
+    to: Kind,
+    left: &Stretched<'_>,
+    factor: i128,
+    count: usize,
+) -> Result<RawBlock, AllocError>
+    requires left { IsHeld left.now }
+    requires left_count { HasCount left.now count }
+    requires count { count ≤ 2 ^ 24 }
+    ensures { IfOk result (λ b. b ≡ result_bytes (little (kind_of to))
+        (binary_result (operators.Operator syntax.Multiply) (kind_of to))
+        (stretched_numbers left.now count) (replicate count factor)) }
+{
+    let factor = Stretched::Number(factor);
+    let made = results::<functions::Multiply>(alloc, to, left, &factor, count);
+    drop(factor);
+    made
+}
+
+// The block with the results of shifts up for `count` numbers of both operands. A shift by one number is
+// a product, whose loop takes wide registers for bytes too.
+fn shifts_up(
+    alloc: Global,
+    to: Kind,
+    left: &Stretched<'_>,
+    right: &Stretched<'_>,
+    count: usize,
+) -> Result<RawBlock, AllocError>
+    requires left { IsHeld left.now }
+    requires left_count { HasCount left.now count }
+    requires right { IsHeld right.now }
+    requires right_count { HasCount right.now count }
+    requires count { count ≤ 2 ^ 24 }
+    ensures { IfOk result (λ b. b ≡ result_bytes (little (kind_of to))
+        (binary_result (operators.Operator syntax.LeftShift) (kind_of to))
+        (stretched_numbers left.now count) (stretched_numbers right.now count)) }
+{
+    match right {
+        Stretched::Number(number) => match shift_factor(to, *number) {
+            Some(factor) => {
+                let made = products(alloc, to, left, factor, count)?;
+                Ok(made)
+            }
+            None => results::<functions::LeftShift>(alloc, to, left, right, count),
+        },
+        Stretched::Elements(_, _, _) => {
+            results::<functions::LeftShift>(alloc, to, left, right, count)
+        }
+    }
+}
+
 // The block with the results of an operator for `count` numbers of both operands.
 fn operator_results(
     alloc: Global,
@@ -109,7 +162,7 @@ fn operator_results(
         BinaryOp::Divide => unreachable!(),
         BinaryOp::Remainder => results::<functions::Remainder>(alloc, to, left, right, count),
         BinaryOp::Power => results::<functions::Power>(alloc, to, left, right, count),
-        BinaryOp::LeftShift => results::<functions::LeftShift>(alloc, to, left, right, count),
+        BinaryOp::LeftShift => shifts_up(alloc, to, left, right, count),
         BinaryOp::RightShift => results::<functions::RightShift>(alloc, to, left, right, count),
         BinaryOp::BitwiseAnd => results::<functions::BitwiseAnd>(alloc, to, left, right, count),
         BinaryOp::BitwiseXor => results::<functions::BitwiseXor>(alloc, to, left, right, count),

@@ -1,5 +1,5 @@
 //! `Stretched`: an operand, broadcast to the shape of the results.
-ghost use Rattle.std.specs.Prelude.{◌≡◌, ◌≢◌, None, true, IfOk, IsTrue};
+ghost use Rattle.std.specs.Prelude.{◌≡◌, ◌≢◌, ℕ, None, true, IfOk, IsTrue};
 ghost use Rattle.nd_model.specs.Arrays.Broadcast.{broadcasts_to, broadcast_view};
 ghost use Rattle.nd_model.specs.Arrays.Element as element;
 ghost use Rattle.nd_model.specs.Making.Elementwise.{operand_sort};
@@ -7,6 +7,7 @@ ghost use Rattle.nd_model.specs.Making.Operand as operand;
 ghost use Rattle.nd_model.specs.Arrays.Strides.{IsInLimits};
 ghost use Rattle.nd_model.specs.Arrays.Tuple.{elements_of};
 ghost use Rattle.nd_model.specs.Arrays.View.{One};
+ghost use Rattle.nd_element.specs.Elements.{AreHeld, numbers_at};
 ghost use Rattle.nd_types.specs.Kinds.{kind_of};
 ghost use Rattle.nd_ufunc.specs.Elementwise.Arguments.{LiesInBlock, argument_of, numbers_beside};
 ghost use Rattle.nd_ufunc.specs.Loops.Feeds.{numbers_left};
@@ -91,6 +92,34 @@ pub(crate) fn side_kind(kind: Kind, own: Kind) -> Kind
 }
 
 impl<'v> Stretched<'v> {
+    /// Returns the elements of a view, which has the shape already. An error means want of memory.
+    pub(crate) fn of_view(
+        view: &View,
+        elem: Elem,
+        bytes: &'v [u8],
+    ) -> Result<Stretched<'v>, AllocError>
+        requires { AreHeld elem bytes.now view.now.places }
+        ensures held { IfOk result IsHeld }
+        ensures numbers { IfOk result (λ s. (count : ℕ) → stretched_numbers s count
+            ≡ numbers_at elem bytes.now view.now.places) }
+    {
+        let view = view.try_clone()?;
+        Ok(Stretched::Elements(view, elem, bytes))
+    }
+
+    /// Returns an operand of the same numbers. An error means want of memory.
+    pub(crate) fn try_clone(&self) -> Result<Stretched<'v>, AllocError>
+        requires { IsHeld self.now }
+        ensures held { IfOk result IsHeld }
+        ensures numbers { IfOk result (λ s. (count : ℕ) → stretched_numbers s count
+            ≡ stretched_numbers self.now count) }
+    {
+        match self {
+            Stretched::Number(number) => Ok(Stretched::Number(*number)),
+            Stretched::Elements(view, elem, bytes) => Stretched::of_view(view, *elem, bytes),
+        }
+    }
+
     /// Begins with all `count` numbers, converted to `kind` where that keeps them. A cycle keeps
     /// its numbers in `room`.
     pub(crate) fn begin<'b>(

@@ -1,7 +1,7 @@
 //! `left_shift` and `right_shift`: shifts in the width of a kind.
-ghost use Rattle.std.specs.Prelude.{◌≡◌, ◌<◌, true, unsigned_abs};
+ghost use Rattle.std.specs.Prelude.{◌≡◌, ◌<◌, ℤ, true, unsigned_abs, IfSome};
 ghost use Rattle.nd_model.specs.Arrays.Element.{wrap};
-ghost use Rattle.nd_model.specs.Grammar.Syntax.{LeftShift, RightShift};
+ghost use Rattle.nd_model.specs.Grammar.Syntax.{LeftShift, Multiply, RightShift};
 ghost use Rattle.nd_model.specs.Making.Operators as operators;
 ghost use Rattle.nd_types.specs.Kinds.{kind_of};
 
@@ -42,6 +42,20 @@ pub(crate) fn left_shift(kind: Kind, number: i128, count: i128) -> i128
         return wrap(kind, 0);
     }
     multiply(kind, number, power_of_two(bit_count(kind, count)))
+}
+
+/// Returns the number that a shift up by `count` bits multiplies by, and `None` where no bit is left. By 3
+/// it is 8.
+pub(crate) fn shift_factor(kind: Kind, count: i128) -> Option<i128>
+    ensures { IfSome result (λ factor. (x : ℤ) → wrap (kind_of kind)
+        (operators.exact (kind_of kind) (operators.Operator Multiply) x factor)
+        ≡ wrap (kind_of kind)
+        (operators.exact (kind_of kind) (operators.Operator LeftShift) x count)) }
+{
+    if !leaves_bits(kind, count) {
+        return None;
+    }
+    Some(power_of_two(bit_count(kind, count)))
 }
 
 /// Returns the number, shifted down by `count` bits, rounded down and wrapped to the kind; 0 or -1

@@ -18,6 +18,7 @@ use nd_heap::BlockWriter;
 use nd_scatter::Scatter;
 use nd_session::session::{Array, OutOfMemory, Session};
 use nd_ufunc::elementwise::InPlace;
+use std::alloc::{AllocError, Global};
 
 /// The bytes of a prepared assignment.
 #[derive(Drop)]
@@ -31,6 +32,10 @@ impl<'v> BlockWriter for AssignedBytes<'v> {
     fn write(self, block: &mut RawBlock) {
         self.assignment.write(block);
         drop(self);
+    }
+
+    fn write_copy(&self, alloc: Global, block: &RawBlock) -> Result<RawBlock, AllocError> {
+        self.assignment.write_copy(alloc, block)
     }
 
     ghost keeps_length = { λ w bytes. length-written_by w.assignment bytes };
@@ -50,6 +55,10 @@ impl<'v> BlockWriter for ResultBytes<'v> {
         drop(self);
     }
 
+    fn write_copy(&self, alloc: Global, block: &RawBlock) -> Result<RawBlock, AllocError> {
+        self.results.write_copy(alloc, block)
+    }
+
     ghost keeps_length = { λ w bytes. length-written_in_place w.results bytes };
 }
 
@@ -65,6 +74,12 @@ impl<'v> BlockWriter for ScatteredBytes<'v> {
     fn write(self, block: &mut RawBlock) {
         self.scatter.write(block);
         drop(self);
+    }
+
+    fn write_copy(&self, _: Global, block: &RawBlock) -> Result<RawBlock, AllocError> {
+        let mut copy = block.try_clone()?;
+        self.scatter.write(&mut copy);
+        Ok(copy)
     }
 
     ghost keeps_length = { λ w bytes. length-scattered_by w.scatter bytes };

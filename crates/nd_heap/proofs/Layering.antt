@@ -185,10 +185,14 @@ pub one_layer : (old : Names) → overridden [] old ++ [] ≡ old
 one_layer [] = refl
 one_layer (e ∷ es) = ap (λ es. e ∷ es) (one_layer es)
 
--- the old names stand in front where none of them has a newer value
-pub old_front : (old added : Names) → take (length old) (overridden [] old ++ added) ≡ old
-old_front [] added = refl
-old_front (e ∷ es) added = ap (λ es. e ∷ es) (old_front es added)
+-- the old names stand in front, with their newer values
+pub newer_front : (newer old added : Names) → take (length old) (overridden newer old ++ added) ≡ overridden newer old
+newer_front newer [] added = refl
+newer_front newer (e ∷ es) added = ap (λ es. (e.0, unwrap_or (lookup e.0 newer) e.1) ∷ es) (newer_front newer es added)
+
+pub length-overridden : (newer old : Names) → length (overridden newer old) ≡ length old
+length-overridden newer [] = refl
+length-overridden newer (e ∷ es) = ap suc (length-overridden newer es)
 
 apart_there : (n : List ℕ) (es : Names) (i : ℕ) (e : Entry) → slice_get es i ≡ Some e → lookup n es ≡ None → bytes_eq e.0 n ≡ false
 apart_there n [] i e at h = none_some e at
@@ -209,6 +213,39 @@ bind_next' (c ∷ es) (suc i) e d at = rw (apart_there c.0 es i e at d.0) (ap (�
 -- the next name goes behind the first ones
 pub bind_next : (es xs : Names) (i : ℕ) (n : List ℕ) (v : model.Value) → AreDistinctNames es → slice_get es i ≡ Some (n, v) → xs ≡ take i es → bind n v xs ≡ take (i + 1) es
 bind_next es xs i n v d at is = ap (bind n v) is ∙ bind_next' es i (n, v) d at ∙ ap (λ k. take k es) (sym (add-one i))
+
+-- ---- newer values put over the old ones
+
+end_here : (es : Names) → es ++ [] ≡ es
+end_here [] = refl
+end_here (e ∷ es) = ap (λ es. e ∷ es) (end_here es)
+
+found_below : (n : List ℕ) (f : model.Value → model.Value) (o : Option model.Value) (w : model.Value) → option_map f o ≡ Some w → (v : model.Value) × (o ≡ Some v)
+found_below n f None w h = none_some w h
+found_below n f (Some v) w h = (v, refl)
+
+lacks_below : (f : model.Value → model.Value) (o : Option model.Value) → option_map f o ≡ None → o ≡ None
+lacks_below f None h = refl
+lacks_below f (Some v) h = cc
+
+-- the next of them is that of a name that is there
+pub put_next : (newer old xs : Names) (i : ℕ) (n : List ℕ) (v w : model.Value) → AreDistinctNames newer → AreDistinctNames old → slice_get newer i ≡ Some (n, v)
+    → xs ≡ overridden (take i newer) old → lookup n xs ≡ Some w → bind n v xs ≡ overridden (take (i + 1) newer) old
+put_next newer old xs i n v w dn od at is found =
+    let there = found_below n (unwrap_or (lookup n (take i newer))) (lookup n old) w (sym (ap (lookup n) is ∙ lookup-overridden n (take i newer) old) ∙ found) in
+    ap (bind n v) is ∙ ap (bind n v) (sym (end_here (overridden (take i newer) old))) ∙ sym (bind_old' n v there.0 (take i newer) old [] od there.1) ∙ end_here (overridden (bind n v (take i newer)) old)
+    ∙ ap (λ t. overridden t old) (bind_next newer (take i newer) i n v dn at refl)
+
+-- or of another name
+pub pass_next : (newer old xs : Names) (i : ℕ) (n : List ℕ) (v : model.Value) → AreDistinctNames newer → slice_get newer i ≡ Some (n, v)
+    → xs ≡ overridden (take i newer) old → lookup n xs ≡ None → xs ≡ overridden (take (i + 1) newer) old
+pass_next newer old xs i n v dn at is lacks =
+    let absent : lookup n old ≡ None = lacks_below (unwrap_or (lookup n (take i newer))) (lookup n old) (sym (ap (lookup n) is ∙ lookup-overridden n (take i newer) old) ∙ lacks) in
+    is ∙ sym (lacking n v (take i newer) old absent) ∙ ap (λ t. overridden t old) (bind_next newer (take i newer) i n v dn at refl)
+
+pub none_newer : (old : Names) → old ≡ overridden [] old
+none_newer [] = refl
+none_newer (e ∷ es) = ap (λ es. e ∷ es) (none_newer es)
 
 -- ---- bases
 
@@ -240,11 +277,11 @@ held_next b es i n v at = ap (λ k. is_held b (take k es)) (add-one i) ∙ held_
 pub only_layer : (newer shared added es : Names) → newer ≡ [] → shared ≡ es → added ≡ [] → overridden newer shared ++ added ≡ es
 only_layer newer shared added es a b d = ap (λ n. overridden n shared ++ added) a ∙ ap (λ s. overridden [] s ++ added) b ∙ ap (λ t. overridden [] es ++ t) d ∙ one_layer es
 
-is_there : (o : Option model.Value) → is_some o ≡ true → (v : model.Value) × (o ≡ Some v)
+pub is_there : (o : Option model.Value) → is_some o ≡ true → (v : model.Value) × (o ≡ Some v)
 is_there None h = false_true h
 is_there (Some v) h = (v, refl)
 
-is_none : (o : Option model.Value) → is_some o ≡ false → o ≡ None
+pub is_none : (o : Option model.Value) → is_some o ≡ false → o ≡ None
 is_none None h = refl
 is_none (Some v) h = cc
 

@@ -7,6 +7,7 @@ pub mod Held
 pub mod Loosening
 pub mod Layering
 pub mod Below
+pub mod Marks
 pub mod Picking
 pub mod Stacking
 pub mod Hiding

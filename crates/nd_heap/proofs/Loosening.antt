@@ -1,6 +1,7 @@
 -- Loose bases: what loses its last name is among them.
-use Rattle.std.proofs.Common.{◌≡◌, ℕ, suc, zero, Bool, true, false, nat_eq, not, ◌&&◌, ◌||◌, cond, bytes_eq, List, [], ◌∷◌, length, drop, filter, Some, Global, refl, sym, ap, ◌∙◌, inl, inr, arith}
+use Rattle.std.proofs.Common.{◌≡◌, ℕ, suc, zero, Bool, true, false, nat_eq, not, ◌&&◌, ◌||◌, ◌≤◌, cond, bytes_eq, List, [], ◌∷◌, length, drop, filter, Some, Global, refl, sym, ap, ◌∙◌, inl, inr, arith}
 use Rattle.std.specs.declared.rc.RcStr.{RcStr}
+use Rattle.std.specs.List.{AllByRecursion}
 use Rattle.std.proofs.lemmas.Bool.{cases_Bool, or_parts, or_from, or_right}
 use Rattle.std.proofs.lemmas.Bool.Decides.{nat_tests}
 use Rattle.nd_model.specs.Arrays.Value as model
@@ -11,6 +12,7 @@ use Rattle.nd_heap.specs.Values.{base_of, names_of}
 use Rattle.nd_heap.specs.Contents.{bases_of}
 use Rattle.nd_heap.specs.Live.{bytes_at, is_base_among}
 use Rattle.nd_heap.specs.Loose.{HeapData, AreLoose, lies_in_found}
+use Rattle.nd_heap.proofs.Entries.{AllBefore, all_of}
 use Rattle.nd_heap.proofs.NameLists.{SharedValue}
 use Rattle.nd_heap.proofs.Plain.{false_true, and_false, no_entries}
 use Rattle.nd_heap.proofs.Same.{same_bases}
@@ -157,6 +159,30 @@ collected_bytes names blocks after old new left removed h b = elim (cases_Bool (
     | inr never ↦ let stays : is_base_among new b ≡ false = left b ∙ rw never refl in removed b ∙ rw stays (h b never free)
   ])
 ]
+
+-- nothing is collected where each base that is loose is held
+pub kept_bytes : (names : Names) (blocks : List (model.Base × List ℕ)) (loose : List model.Base) → ((b : model.Base) → is_base_among loose b ≡ true → is_held b names ≡ true)
+    → AreLoose (record { names = names; blocks = blocks; loose = loose }) → (b : model.Base) → bytes_at blocks b ≡ cond (is_held b names) (bytes_at blocks b) []
+kept_bytes names blocks loose held h b = elim (cases_Bool (is_held b names)) [
+  | inl is ↦ rw is refl
+  | inr free ↦ rw free (elim (cases_Bool (is_base_among loose b)) [
+    | inl was ↦ false_true (sym free ∙ held b was)
+    | inr never ↦ h b never free
+  ])
+]
+
+held_all : (names : Names) (es : List (Base × Unit {0})) → AllByRecursion (λ (e : Base × Unit {0}). is_held (base_of e.0) names ≡ true) es
+    → (b : model.Base) → is_base_among (bases_of es) b ≡ true → is_held b names ≡ true
+held_all names [] h b among = false_true among
+held_all names (e ∷ es) h b among = elim (cases_Bool (model.same_base (base_of e.0) b)) [
+  | inl same ↦ ap (λ c. is_held c names) (sym (same_bases (base_of e.0) b same)) ∙ h.0
+  | inr apart ↦ held_all names es h.1 b (sym (ap (λ t. t || is_base_among (bases_of es) b) apart) ∙ among)
+]
+
+-- each base of a set was found to be held
+pub held_each : (names : Names) (es : List (Base × Unit {0})) (i : ℕ) → length es ≤ i → AllBefore (λ (e : Base × Unit {0}). is_held (base_of e.0) names ≡ true) es i
+    → (b : model.Base) → is_base_among (bases_of es) b ≡ true → is_held b names ≡ true
+held_each names es i long h = held_all names es (all_of (λ (e : Base × Unit {0}). is_held (base_of e.0) names ≡ true) es i long h)
 
 -- what is collected of a label
 pub collected_label : (label : ℕ) (names : Names) (blocks after : List (model.Base × List ℕ)) (old own lost : List model.Base)

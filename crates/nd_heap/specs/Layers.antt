@@ -1,6 +1,6 @@
 -- Names in layers: old ones, newer values of some of these, and names that were added behind them. Blocks that are there, or gone.
-use Rattle.std.specs.Prelude.{◌≡◌, ℕ, Bool, false, ◌||◌, List, [], ◌∷◌, None, if◌then◌else◌, unwrap_or}
-use Rattle.nd_model.specs.Arrays.Value.{Base, same_base}
+use Rattle.std.specs.Prelude.{◌≡◌, ◌%◌, ℕ, Bool, true, false, ◌||◌, List, [], ◌∷◌, None, if◌then◌else◌, unwrap_or}
+use Rattle.nd_model.specs.Arrays.Value.{Base, same_base, lies_in}
 use Rattle.nd_model.specs.Cells.Session.{Names, lookup}
 use Rattle.nd_heap.specs.Live.{is_base_among}
 
@@ -13,6 +13,12 @@ overridden newer (e ∷ es) = (e.0, unwrap_or (lookup e.0 newer) e.1) ∷ overri
 abbrev pub AreDistinctNames : Names → Type 0
 AreDistinctNames [] = Unit {0}
 AreDistinctNames (e ∷ es) = (lookup e.0 es ≡ None) × AreDistinctNames es
+
+-- beside each value that lies in a base stands the end of the base's label, as far as these marks reach
+abbrev pub AreMarked : Names → List ℕ → Type 0
+AreMarked [] ms = Unit {0}
+AreMarked (e ∷ es) [] = Unit {0}
+AreMarked (e ∷ es) (m ∷ ms) = ((b : Base) → lies_in b e.1 ≡ true → b.label % 4294967296 ≡ m) × AreMarked es ms
 
 -- there is a block of this base
 abbrev pub is_block_among : List (Base × List ℕ) → Base → Bool

@@ -12,8 +12,7 @@ use crate::blocks::{
     Bases, Blocks, bytes_of, has_base, hide, remove_blocks, remove_own, share_block, stack, write,
     write_block,
 };
-use crate::layer::Layer;
-use crate::name_table::MANY;
+use crate::layer::{Layer, most_newer};
 use crate::value::{Base, Value};
 use crate::writer::BlockWriter;
 use indexmap::IndexMap;
@@ -218,7 +217,8 @@ impl BlockTable {
         ensures bytes { bytes_at self.new.blocks ≡ bytes_at self.old.blocks }
         ensures room { self.old.room ≤ self.new.room }
     {
-        if self.newer.len() <= MANY && self.gone.len() <= MANY {
+        let most = most_newer(self.shared.as_ref().len());
+        if self.newer.len() <= most && self.gone.len() <= most {
             return Ok(());
         }
         let flat = stack(&self.newer, self.shared.as_ref(), &self.gone)?;

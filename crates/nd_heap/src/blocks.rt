@@ -210,6 +210,26 @@ pub(crate) fn drop_base(bases: &mut Bases, value: &Value)
     }
 }
 
+/// Whether some bound value lies in each of these bases, of which there are few. Of many it says no.
+pub(crate) fn are_held(bases: &Bases, names: &NameTable) -> bool
+    ensures { IsTrue result → (b : values.Base)
+        → IsTrue (is_base_among (bases_of bases.now.entries) b)
+        → IsTrue (model.is_held b names.now) }
+{
+    if bases.len() > FEW {
+        return false;
+    }
+    for i in 0..bases.len() {
+        let Some((base, _)) = bases.get_index(i) else {
+            unreachable!();
+        };
+        if !names.is_held(*base) {
+            return false;
+        }
+    }
+    true
+}
+
 /// Takes out the bases that some bound value lies in. Few are looked for one by one, many by one
 /// pass over the names: a pass for each would cost their product.
 pub(crate) fn retain_unheld(bases: &mut Bases, names: &NameTable)

@@ -13,7 +13,9 @@ ghost use Rattle.nd_heap.specs.Live.{bytes_at, is_base_among};
 ghost use Rattle.nd_heap.specs.Loose.{lies_in_found};
 
 use crate::block_table::{BlockTable, pick_blocks, retain_full};
-use crate::blocks::{Bases, Blocks, drop_label, has_base, note_base, retain_label, retain_unheld};
+use crate::blocks::{
+    Bases, Blocks, are_held, drop_label, has_base, note_base, retain_label, retain_unheld,
+};
 use crate::name_table::NameTable;
 use crate::names::lies_in;
 use crate::value::{Base, Value};
@@ -343,6 +345,10 @@ impl Heap {
         ensures bytes { (b : values.Base) → bytes_at self.new.blocks b
             ≡ (if model.is_held b self.old.names then bytes_at self.old.blocks b else []) }
     {
+        if are_held(&self.loose, &self.names) {
+            self.loose.clear();
+            return;
+        }
         retain_full(&mut self.loose, &self.blocks);
         retain_unheld(&mut self.loose, &self.names);
         self.blocks.remove(&self.loose);

@@ -6,6 +6,12 @@ ghost use Rattle.nd_heap.specs.Sharing.{held_in};
 use std::alloc::AllocError;
 use std::rc::Rc;
 
+/// How many entries the newer layers of a table have at most when a cell begins, by how many its old one has: more are put among the old
+/// ones, which copies all.
+pub(crate) fn most_newer(old: usize) -> usize {
+    (old / 64).clamp(32, 256)
+}
+
 /// One layer of a table: its own, which takes no memory while empty, or one that versions share.
 #[derive(Drop)]
 pub(crate) enum Layer<T> {

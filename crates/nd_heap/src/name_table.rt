@@ -10,12 +10,14 @@ ghost use Rattle.nd_heap.specs.Contents.{bases_of};
 ghost use Rattle.nd_heap.specs.Layers.{AreDistinctNames};
 ghost use Rattle.nd_heap.specs.Live.{is_base_among};
 ghost use Rattle.nd_heap.specs.Loose.{LosesHolder};
+ghost use Rattle.nd_heap.specs.Sharing.{held_in};
 ghost use Rattle.nd_heap.specs.Values.{base_of, value_of, names_of};
 
 use crate::blocks::{Bases, drop_base, note_base};
-use crate::layer::Layer;
+use crate::layer::{Layer, most_newer};
 use crate::names::{
-    Names, find, insert, is_held, is_held_below, lies_in, lies_in_label, remove, unbind,
+    Names, find, insert, is_held, is_held_below, lies_in, lies_in_label, marks_of, put_newer,
+    remove, unbind,
 };
 use crate::value::{Base, Value};
 use indexmap::IndexMap;
@@ -24,14 +26,13 @@ use std::alloc::Global;
 use std::marker::Model;
 use std::rc::{Rc, RcStr};
 
-/// How many entries the newer layers have at most when a cell begins: more are put among the old ones, which copies all.
-pub(crate) const MANY: usize = 256;
-
 /// Names in order, with their values: old ones, which versions share, newer values of some of these, and names that were added
 /// behind them. A copy shares the old ones, so it copies few.
 #[derive(Drop)]
 pub(crate) struct NameTable {
     shared: Layer<Names>,
+    /// The marks of the first old names, by which a base is looked for among them.
+    marks: Layer<Vec<u32>>,
     newer: Names,
     added: Names,
     alloc: Global,
@@ -43,7 +44,7 @@ impl Model for NameTable {
 
     ghost Value = { List (List ℕ × values.Value) };
 
-    ghost use Rattle.nd_heap.specs.Layers.{overridden, AreDistinctNames};
+    ghost use Rattle.nd_heap.specs.Layers.{overridden, AreDistinctNames, AreMarked};
     ghost use Rattle.nd_heap.specs.Sharing.{held_in};
     ghost use Rattle.nd_heap.specs.Values.{names_of};
 
@@ -51,7 +52,27 @@ impl Model for NameTable {
         ++ names_of t.added.entries };
 
     ghost invariant = { λ t. AreDistinctNames (overridden (names_of t.newer.entries)
-        (names_of (held_in t.shared).entries) ++ names_of t.added.entries) };
+        (names_of (held_in t.shared).entries) ++ names_of t.added.entries)
+        × AreMarked (names_of (held_in t.shared).entries) (held_in t.marks).items };
+}
+
+/// The old names and their marks, shared.
+fn share_old(
+    shared: &Layer<Names>,
+    marks: &Layer<Vec<u32>>,
+) -> Result<(Layer<Names>, Layer<Vec<u32>>), OutOfMemory>
+    ensures names { IfOk result (λ r. names_of (held_in r.0).entries
+        ≡ names_of (held_in shared.now).entries) }
+    ensures marks { IfOk result (λ r. (held_in r.1).items ≡ (held_in marks.now).items) }
+{
+    let names = shared.try_clone()?;
+    match marks.try_clone() {
+        Ok(marks) => Ok((names, marks)),
+        Err(memory) => {
+            drop(names);
+            Err(memory.into())
+        }
+    }
 }
 
 impl NameTable {
@@ -61,6 +82,7 @@ impl NameTable {
     {
         NameTable {
             shared: Layer::Own(IndexMap::new(alloc)),
+            marks: Layer::Own(Vec::new(alloc)),
             newer: IndexMap::new(alloc),
             added: IndexMap::new(alloc),
             alloc,
@@ -79,9 +101,10 @@ impl NameTable {
                 return Err(memory.into());
             }
         };
-        match self.shared.try_clone() {
-            Ok(shared) => Ok(NameTable {
+        match share_old(&self.shared, &self.marks) {
+            Ok((shared, marks)) => Ok(NameTable {
                 shared,
+                marks,
                 newer,
                 added,
                 alloc: self.alloc,
@@ -89,7 +112,7 @@ impl NameTable {
             Err(memory) => {
                 drop(newer);
                 drop(added);
-                Err(memory.into())
+                Err(memory)
             }
         }
     }
@@ -171,29 +194,30 @@ impl NameTable {
         Ok(())
     }
 
-    /// Unbinds an old name. All names are copied where there are newer layers, or versions share the old one.
+    /// Unbinds an old name. All names are copied where there are newer layers, or versions share the old one: else their marks are given
+    /// up.
     fn unbind_shared(&mut self, name: &str) -> Result<(), OutOfMemory>
         ensures ok { OnOk result (self.new ≡ model.unbind name.now self.old) }
         ensures err { OnErr result (self.new ≡ self.old) }
     {
-        if self.newer.len() + self.added.len() > 0 {
+        let is_own = self.shared.is_own();
+        if self.newer.len() + self.added.len() > 0 || !is_own {
             let mut flat = self.flat()?;
             remove(&mut flat, name);
             self.hold(flat)?;
             return Ok(());
         }
         unbind(&mut self.shared, name)?;
+        self.marks = Layer::Own(Vec::new(self.alloc));
         Ok(())
     }
 
-    /// A map with room for all names: it has the old ones where none of them has a newer value, else none.
+    /// The old names with their newer values, in a map with room for all names.
     fn begin_flat(&self) -> Result<Names, OutOfMemory>
         ensures { IfOk result (λ m. names_of m.entries ≡ take (length m.entries) self.now) }
     {
-        if !self.newer.is_empty() {
-            return Ok(IndexMap::with_capacity(self.alloc, self.len())?);
-        }
         let mut flat = self.shared.as_ref().clone()?;
+        put_newer(&mut flat, &self.newer)?;
         flat.reserve(self.added.len())?;
         Ok(flat)
     }
@@ -218,7 +242,9 @@ impl NameTable {
         ensures ok { OnOk result (self.new ≡ names_of names.entries) }
         ensures err { OnErr result (self.new ≡ self.old) }
     {
+        let marks = Rc::new(self.alloc, marks_of(self.alloc, &names)?)?;
         self.shared = Layer::Shared(Rc::new(self.alloc, names)?);
+        self.marks = Layer::Shared(marks);
         self.newer.clear();
         self.added.clear();
         Ok(())
@@ -228,7 +254,7 @@ impl NameTable {
     pub(crate) fn settle(&mut self) -> Result<(), OutOfMemory>
         ensures { self.new ≡ self.old }
     {
-        if self.newer.len() + self.added.len() <= MANY {
+        if self.newer.len() + self.added.len() <= most_newer(self.shared.as_ref().len()) {
             return Ok(());
         }
         let flat = self.flat()?;
@@ -275,7 +301,8 @@ impl NameTable {
         if is_held(&self.newer, base) {
             return self.has_newer_holder(base) || self.has_holder(base);
         }
-        is_held_below(self.shared.as_ref(), &self.newer, base)
+        let marks = self.marks.as_ref().as_slice();
+        is_held_below(self.shared.as_ref(), &self.newer, marks, base)
     }
 
     /// Whether some bound value lies in a base of the label.

@@ -1,10 +1,10 @@
 //! `Names`: one layer of names in order with their values, which versions share.
 
-ghost use Rattle.std.specs.Prelude.{◌≡◌, ◌↔◌, IsFalse, OnErr, OnOk, false, option_map};
+ghost use Rattle.std.specs.Prelude.{◌≡◌, ◌↔◌, ◌%◌, ℕ, IfOk, IsFalse, IsTrue, List, OnErr, OnOk, Some, false, option_map, slice_get};
 ghost use Rattle.std.specs.Rc.{rc_str_bytes};
 ghost use Rattle.nd_model.specs.Cells.Session as model;
 ghost use Rattle.nd_model.specs.Arrays.Value as values;
-ghost use Rattle.nd_heap.specs.Layers.{overridden};
+ghost use Rattle.nd_heap.specs.Layers.{AreMarked, overridden};
 ghost use Rattle.nd_heap.specs.Sharing.{held_in};
 ghost use Rattle.nd_heap.specs.Values.{base_of, value_of, names_of};
 
@@ -12,6 +12,7 @@ use crate::layer::Layer;
 use crate::value::{Base, Value};
 use indexmap::IndexMap;
 use nd_memory::OutOfMemory;
+use std::alloc::Global;
 use std::rc::{Rc, RcStr};
 
 /// A copy of the names shares each name's text and its value.
@@ -69,6 +70,69 @@ pub(crate) fn find<'a>(names: &'a Names, name: &str) -> Option<&'a Rc<Value>>
     names.get(name)
 }
 
+/// Gives names their newer values. A newer value of a name that is not there is passed over.
+pub(crate) fn put_newer(names: &mut Names, newer: &Names) -> Result<(), OutOfMemory>
+    ensures { OnOk result (names_of names.new.entries
+        ≡ overridden (names_of newer.now.entries) (names_of names.old.entries)) }
+{
+    // proof: no name stands twice.
+    let _ = (names.get_index_of(""), newer.get_index_of(""));
+    for i in 0..newer.len() {
+        let Some((name, value)) = newer.get_index(i) else {
+            unreachable!();
+        };
+        if find(names, name.as_str()).is_none() {
+            continue;
+        }
+        insert(names, name.clone()?, value.clone()?)?;
+    }
+    Ok(())
+}
+
+/// The end of a label, which stands beside each value that lies in one of its bases.
+fn mark_of(label: u64) -> u32
+    ensures { result ≡ label % 4294967296 }
+{
+    (label % (1 << 32)) as u32
+}
+
+/// The mark of the base that a value lies in, any mark where it lies in none.
+fn value_mark(value: &Value) -> u32
+    ensures { (b : values.Base) → IsTrue (values.lies_in b (value_of value.now))
+        → b.label % 4294967296 ≡ result }
+{
+    match value {
+        Value::Number(_) => 0,
+        Value::Array(array) | Value::Row(array) => mark_of(array.base.label),
+    }
+}
+
+/// The marks of names in order, by which a base is looked for among them.
+pub(crate) fn marks_of(alloc: Global, names: &Names) -> Result<Vec<u32>, OutOfMemory>
+    ensures { IfOk result (λ marks. AreMarked (names_of names.now.entries) marks.items) }
+{
+    let mut marks = Vec::with_capacity(alloc, names.len())?;
+    for i in 0..names.len() {
+        let Some((_, value)) = names.get_index(i) else {
+            unreachable!();
+        };
+        marks.push(value_mark(value.as_ref()))?;
+    }
+    Ok(marks)
+}
+
+/// Whether the value at a place lies in no base of the mark, by its own mark.
+fn is_apart(marks: &[u32], place: usize, mark: u32) -> bool
+    ensures { IsTrue result → (names : model.Names) → AreMarked names marks.now
+        → (n : List ℕ) (v : values.Value) → slice_get names place ≡ Some (n, v)
+        → (b : values.Base) → b.label % 4294967296 ≡ mark → values.lies_in b v ≡ false }
+{
+    match marks.get(place) {
+        Some(own) => *own != mark,
+        None => false,
+    }
+}
+
 /// Whether the value lies in the base.
 pub(crate) fn lies_in(value: &Value, base: Base) -> bool
     ensures { result ≡ values.lies_in (base_of base) (value_of value.now) }
@@ -95,16 +159,21 @@ pub(crate) fn is_held(names: &Names, base: Base) -> bool
 }
 
 /// Whether some value lies in the base whose name has no newer one, where no newer value lies in it.
-/// Only the names of such values are looked up.
-pub(crate) fn is_held_below(older: &Names, newer: &Names, base: Base) -> bool
-    requires { model.is_held (base_of base) (names_of newer.now.entries) ≡ false }
+/// Only values of the base's mark, and those behind the last mark, are looked at.
+pub(crate) fn is_held_below(older: &Names, newer: &Names, marks: &[u32], base: Base) -> bool
+    requires newer { model.is_held (base_of base) (names_of newer.now.entries) ≡ false }
+    requires marks { AreMarked (names_of older.now.entries) marks.now }
     ensures { result ≡ model.is_held (base_of base)
         (overridden (names_of newer.now.entries) (names_of older.now.entries)) }
 {
+    let mark = mark_of(base.label);
     for i in (0..older.len()).rev() {
         let Some((name, value)) = older.get_index(i) else {
             unreachable!();
         };
+        if is_apart(marks, i, mark) {
+            continue;
+        }
         if lies_in(value.as_ref(), base) {
             if find(newer, name.as_str()).is_none() {
                 return true;

@@ -52,6 +52,7 @@ fn append_outside(
 }
 
 /// Appends the bytes of a range. A byte offset past the end has a 0.
+#[inline(always)]
 fn append_range(bytes: &mut Vec<u8>, block: &[u8], from: u128, width: u64) -> Result<(), AllocError>
     requires { from + width ≤ 2 ^ 127 }
     ensures { OnOk result (bytes.new.items

@@ -117,7 +117,8 @@ fn fill_page(words: &mut Vec<u64>, count: usize) -> Result<(), AllocError>
 
 /// The number of words that a page grows to, so that it has `count`.
 fn rounded_up(count: usize) -> usize
-    ensures { count ≤ result }
+    ensures least { count ≤ result }
+    ensures most { result < count + 64 }
 {
     count.div_ceil(MORE_WORDS).saturating_mul(MORE_WORDS)
 }

@@ -1,11 +1,10 @@
-use Rattle.std.proofs.Common.{◌≡◌, ◌∙◌, ap, sym, ⊎_elim}
-use Rattle.std.specs.Prelude.{is_ok}
+use Rattle.std.proofs.Common.{◌≡◌, ◌∙◌, ap, sym}
 use Rattle.nd_model.specs.Cells.Running as running
 use Rattle.nd_heap.specs.Contents.{blocks_of}
 use Rattle.nd_heap.specs.Layers.{is_block_among}
 use Rattle.nd_heap.specs.Live.{bytes_at}
 use Rattle.nd_heap.specs.Values.{base_of}
-use Rattle.nd_heap.proofs.Bases.{on_err, at_err, found_bytes, found_block, written_block, same_block, nothing_put}
+use Rattle.nd_heap.proofs.Bases.{on_err, found_bytes, found_block, written_block, same_block, nothing_put}
 use Rattle.nd_heap.proofs.Stacking.{among_written}
 use Rattle.nd_heap.proofs.blocks.write_block.Goals as goal
 

@@ -17,5 +17,5 @@ returns-in_err-fill_page-clause-same c = λ k q.
 pub returns-clause-room : goal.returns-clause-room
 returns-clause-room c =
     let lt : c.args.page < length c.extend_pages.new.pages.items = omega (arith, c.in_ok-extend_pages.ensures.ok) in
-    let le : c.args.count ≤ length c.fill_page.new.words.items = omega (arith, c.in_ok-fill_page.ensures.ok, c.rounded_up.ensures) in
+    let le : c.args.count ≤ length c.fill_page.new.words.items = omega (arith, c.in_ok-fill_page.ensures.ok, c.rounded_up.ensures.least) in
     rw (page_put c.extend_pages.new.pages.items c.args.page c.fill_page.new.words lt) le

@@ -4,4 +4,4 @@ use Rattle.nd_heap.proofs.Layering.{once_of}
 use Rattle.nd_heap.proofs.name_table.NameTable.distinctness.Goals as goal
 
 pub returns : goal.returns
-returns c = subst IsOnce c.self.view_is (once_of _ c.self.invariant)
+returns c = subst IsOnce c.self.view_is (once_of _ c.self.invariant.0)

@@ -17,5 +17,5 @@ pub returns : goal.returns
 returns c =
     let i = c.self.inside in
     let b = base_of c.args.base in
-    c.is_held_below.ensures ∙ ap (λ m. model.is_held b (overridden (names_of i.newer.entries) (names_of m.entries))) c.as_ref.ensures
+    c.is_held_below.ensures ∙ ap (λ m. model.is_held b (overridden (names_of i.newer.entries) (names_of m.entries))) c.as_ref-2.ensures
     ∙ sym (sym (ap (λ (ns : Names). model.is_held b ns) c.self.view_is) ∙ unheld_added b (names_of i.newer.entries) (names_of (held_in i.shared).entries) (names_of i.added.entries) (sym c.is_held.ensures ∙ c.if-is_held.false))

@@ -14,6 +14,7 @@ mod pairs;
 mod parts;
 mod reading;
 mod repeated;
+mod whole;
 
 pub use chunks::{CHUNK, chunk_of, fill};
 pub use cycle::{Cycle, ROOM};
@@ -23,6 +24,7 @@ pub use kernel::Side;
 pub use laid_out::LaidOut;
 pub use lent::Lent;
 pub use pairs::apply_sides;
-pub(crate) use reading::numbers_are_valid;
 pub use reading::side_of;
+pub(crate) use reading::{lend, numbers_are_valid};
 pub use repeated::Repeated;
+pub(crate) use whole::append_whole;

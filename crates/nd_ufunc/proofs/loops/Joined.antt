@@ -1,12 +1,15 @@
 -- The numbers of a side part by part, and what a function gives of them.
-use Rattle.std.proofs.Common.{◌≡◌, ℕ, ◌+◌, ℤ, ◌++◌, map, length, sym, ap, ◌∙◌, arith}
+use Rattle.std.proofs.Common.{◌≡◌, ℕ, ◌+◌, ◌*◌, ◌≤◌, ℤ, ◌++◌, map, length, sym, ap, ◌∙◌, arith}
+use Rattle.std.proofs.Math.Nat.{mul-le-mul_right}
 use Rattle.std.proofs.lemmas.List.{length-map, map-append}
-use Rattle.nd_model.specs.Arrays.Element.{Element}
+use Rattle.nd_model.specs.Arrays.Element.{Element, size_of}
 use Rattle.nd_model.specs.Arrays.Tuple.{count_up}
 use Rattle.nd_view.proofs.Tuples.{count_up-append, length-count_up, map-map, map_same, shifted}
 use Rattle.nd_ufunc.specs.Loops.Results.{result_bytes}
-use Rattle.nd_ufunc.specs.Loops.Sides.{number_on, numbers_on}
+use Rattle.nd_ufunc.specs.Loops.Sides.{HasNumbers, number_on, numbers_on}
+use Rattle.nd_types.specs.Kinds.{kind_of}
 use Rattle.nd_ufunc.specs.declared.loops.kernel.Side.{Side}
+use Rattle.nd_ufunc.specs.declared.loops.kernel.Side.TheVariants.{Same, Each}
 use Rattle.nd_ufunc.proofs.loops.Zipped.{result-append}
 
 pub length-numbers : (s : Side) (n : ℕ) → length (numbers_on s n) ≡ n
@@ -24,3 +27,8 @@ pub joined : (e : Element) (f : ℤ → ℤ → ℤ) (s t u v : Side) (m n : ℕ
 joined e f s t u v m n left right =
     sym (result-append e f (numbers_on s m) (numbers_on t m) (numbers_on u n) (numbers_on v n) (length-numbers s m ∙ sym (length-numbers t m)))
     ∙ (λ i. result_bytes e f (sym (on_behind s u m n left) i) (sym (on_behind t v m n right) i))
+
+-- a side that has many numbers has fewer
+pub fewer : (s : Side) (m n : ℕ) → m ≤ n → HasNumbers s n → HasNumbers s m
+fewer (Same z) m n le has = has
+fewer (Each bytes k) m n le has = omega (arith, has, mul-le-mul_right (size_of (kind_of k)) le)

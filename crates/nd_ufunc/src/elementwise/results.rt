@@ -1,6 +1,6 @@
 //! `binary_results` and `single_results`: the block of a function's results, whose loops are chosen
 //! once.
-ghost use Rattle.std.specs.Prelude.{◌≡◌, ◌≢◌, ◌*◌, ◌^◌, ◌≤◌, replicate, IfOk};
+ghost use Rattle.std.specs.Prelude.{◌≡◌, ◌≢◌, ◌*◌, ◌^◌, ◌≤◌, ◌++◌, replicate, IfOk};
 ghost use Rattle.nd_model.specs.Arrays.Element.{size_of};
 ghost use Rattle.nd_model.specs.Making.Elementwise.{little, single_number};
 ghost use Rattle.nd_model.specs.Making.Operators as operators;
@@ -14,7 +14,7 @@ ghost use Rattle.nd_ufunc.specs.Elementwise.Stretched.{HasCount, IsHeld, stretch
 
 use crate::elementwise::stretched::Stretched;
 use crate::loops::operation::Operation;
-use crate::loops::{Feed, ROOM, fill, operation as functions};
+use crate::loops::{Feed, ROOM, append_whole, fill, operation as functions};
 use crate::scalar::{BinaryUfunc, Single, shift_factor};
 use nd_block::{Filling, RawBlock};
 use nd_syntax::trees::{BinaryOp, UnaryOp};
@@ -56,7 +56,35 @@ fn begin<'b, O: Operation>(
     }
 }
 
-// The block with the results of a function for `count` numbers of both operands.
+// Appends the results for operands that are gathered, converted or laid out a chunk at a time.
+#[inline(never)]
+fn fill_by_chunks<O: Operation>(
+    filling: Filling,
+    kind: Kind,
+    to: Kind,
+    left: &Stretched<'_>,
+    right: &Stretched<'_>,
+    count: usize,
+) -> Filling
+    requires left { IsHeld left.now }
+    requires left_count { HasCount left.now count }
+    requires right { IsHeld right.now }
+    requires right_count { HasCount right.now count }
+    requires room { count * size_of (kind_of to) ≡ filling.1 }
+    ensures left { result.1 ≡ 0 }
+    ensures written { result.0 ≡ filling.0 ++ result_bytes (little (kind_of to))
+        (O.gives (kind_of to)) (stretched_numbers left.now count)
+        (stretched_numbers right.now count) }
+{
+    let mut left_room = [0; ROOM];
+    let mut right_room = [0; ROOM];
+    let mut left = begin::<O>(left, kind, count, &mut left_room);
+    let mut right = begin::<O>(right, kind, count, &mut right_room);
+    fill::<O>(filling, to, kind, &mut left, &mut right, count)
+}
+
+// The block with the results of a function for `count` numbers of both operands. Operands that lie
+// contiguous in the wanted kind, and numbers, are read without a buffer.
 fn results<O: Operation>(
     alloc: Global,
     to: Kind,
@@ -73,12 +101,11 @@ fn results<O: Operation>(
         (stretched_numbers left.now count) (stretched_numbers right.now count)) }
 {
     let kind = operand_kind::<O>(to, left.kind(), right.kind());
-    let room = Filling::with_room(alloc, count * to.size() as usize)?;
-    let mut left_room = [0; ROOM];
-    let mut right_room = [0; ROOM];
-    let mut left = begin::<O>(left, kind, count, &mut left_room);
-    let mut right = begin::<O>(right, kind, count, &mut right_room);
-    let out = fill::<O>(room, to, kind, &mut left, &mut right, count);
+    let filling = Filling::with_room(alloc, count * to.size() as usize)?;
+    let out = match (left.side(kind), right.side(kind)) {
+        (Some(xs), Some(ys)) => append_whole::<O>(filling, kind, to, xs, ys, count),
+        _ => fill_by_chunks::<O>(filling, kind, to, left, right, count),
+    };
     Ok(out.finish())
 }
 

@@ -1,5 +1,5 @@
 //! `Stretched`: an operand, broadcast to the shape of the results.
-ghost use Rattle.std.specs.Prelude.{◌≡◌, ◌≢◌, ℕ, None, true, IfOk, IsTrue};
+ghost use Rattle.std.specs.Prelude.{◌≡◌, ◌≢◌, ℕ, None, true, IfOk, IfSome, IsTrue};
 ghost use Rattle.nd_model.specs.Arrays.Broadcast.{broadcasts_to, broadcast_view};
 ghost use Rattle.nd_model.specs.Arrays.Element as element;
 ghost use Rattle.nd_model.specs.Making.Elementwise.{operand_sort};
@@ -11,11 +11,11 @@ ghost use Rattle.nd_element.specs.Elements.{AreHeld, numbers_at};
 ghost use Rattle.nd_types.specs.Kinds.{kind_of};
 ghost use Rattle.nd_ufunc.specs.Elementwise.Arguments.{LiesInBlock, argument_of, numbers_beside};
 ghost use Rattle.nd_ufunc.specs.Loops.Feeds.{numbers_left};
-ghost use Rattle.nd_ufunc.specs.Loops.Sides.{Keeps};
-ghost use Rattle.nd_ufunc.specs.Elementwise.Stretched.{IsHeld, stretched_numbers};
+ghost use Rattle.nd_ufunc.specs.Loops.Sides.{HasNumbers, Keeps, numbers_on};
+ghost use Rattle.nd_ufunc.specs.Elementwise.Stretched.{HasCount, IsHeld, stretched_numbers};
 
 use crate::elementwise::argument::Argument;
-use crate::loops::{Feed, LaidOut, ROOM, Repeated};
+use crate::loops::{Feed, LaidOut, ROOM, Repeated, Side, lend};
 use crate::scalar::whole_number;
 use nd_shape::broadcast_to;
 use nd_types::{Elem, ElemType, Kind, fits, highest, lowest};
@@ -117,6 +117,26 @@ impl<'v> Stretched<'v> {
         match self {
             Stretched::Number(number) => Ok(Stretched::Number(*number)),
             Stretched::Elements(view, elem, bytes) => Stretched::of_view(view, *elem, bytes),
+        }
+    }
+
+    /// Returns all numbers where they lie, if they need not be gathered or converted: a number for
+    /// all, or contiguous ones of `kind`, or of their own kind where that does not keep them.
+    pub(crate) fn side(&self, kind: Kind) -> Option<Side<'v>>
+        requires { IsHeld self.now }
+        ensures enough { IfSome result (λ s. (count : ℕ) → HasCount self.now count
+            → HasNumbers s count) }
+        ensures numbers { IfSome result (λ s. (count : ℕ) → HasCount self.now count
+            → numbers_on s count ≡ stretched_numbers self.now count) }
+    {
+        match self {
+            Stretched::Number(number) => Some(Side::Same(*number)),
+            Stretched::Elements(view, elem, bytes) => {
+                let run = view.contiguous_run(elem.size())?;
+                let kind = side_kind(kind, elem.kind());
+                let lent = lend(kind, bytes, *elem, &run)?;
+                Some(Side::Each(lent, kind))
+            }
         }
     }
 

@@ -51,8 +51,8 @@ fn lay_out<K: KnownKind>(out: &mut [u8], side: Side<'_>, count: usize)
     apply_each::<Maximum>(out, K::KIND, side, side, count);
 }
 
-// Writes the first `count` numbers of an operand in this kind: the greater of each and itself.
-fn lay_out_kind(out: &mut [u8], kind: Kind, side: Side<'_>, count: usize)
+/// Writes the first `count` numbers of an operand in this kind: the greater of each and itself.
+pub(crate) fn lay_out_kind(out: &mut [u8], kind: Kind, side: Side<'_>, count: usize)
     requires out { length out.old ≡ count * size_of (kind_of kind) }
     requires side { HasNumbers side count }
     ensures { out.new ≡ result_bytes (little (kind_of kind))

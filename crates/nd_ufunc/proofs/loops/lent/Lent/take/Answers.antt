@@ -1,17 +1,8 @@
-use Rattle.std.proofs.Common.{◌≡◌, ℕ, ◌+◌, ◌-◌, ◌*◌, ◌≤◌, ◌++◌, List, ℤ, length, sym, ap, ◌∙◌, arith}
-use Rattle.std.proofs.Math.Nat.{mul-le-mul_right}
-use Rattle.nd_model.specs.Arrays.Element.{size_of}
-use Rattle.nd_types.specs.Kinds.{kind_of}
-use Rattle.nd_ufunc.specs.Loops.Sides.{HasNumbers, numbers_on}
+use Rattle.std.proofs.Common.{◌≡◌, ℕ, ◌+◌, ◌-◌, ◌≤◌, ◌++◌, List, ℤ, length, sym, ap, ◌∙◌, arith}
+use Rattle.nd_ufunc.specs.Loops.Sides.{numbers_on}
 use Rattle.nd_ufunc.specs.declared.loops.kernel.Side.{Side}
-use Rattle.nd_ufunc.specs.declared.loops.kernel.Side.TheVariants.{Same, Each}
-use Rattle.nd_ufunc.proofs.loops.Joined.{length-numbers, on_behind}
+use Rattle.nd_ufunc.proofs.loops.Joined.{fewer, length-numbers, on_behind}
 use Rattle.nd_ufunc.proofs.loops.lent.Lent.take.Goals as goal
-
--- a side that has many numbers has fewer
-fewer : (s : Side) (m n : ℕ) → m ≤ n → HasNumbers s n → HasNumbers s m
-fewer (Same z) m n le has = has
-fewer (Each bytes k) m n le has = omega (arith, has, mul-le-mul_right (size_of (kind_of k)) le)
 
 few : (l : List ℤ) (s : Side) (m n : ℕ) → l ≡ numbers_on s n → m ≤ length l → m ≤ n
 few l s m n is le = let long : length l ≡ n = ap length is ∙ length-numbers s n in omega (arith, le, long)

@@ -56,7 +56,8 @@ impl CellRunner for SessionRunner {
 
     type Word = KeyFilter;
 
-    type Version = Version;
+    // shared, so that a snapshot is moved as a pointer
+    type Version = Rc<Version>;
 
     type Order = NameOrder;
 
@@ -68,7 +69,7 @@ impl CellRunner for SessionRunner {
 
     ghost change_of = { λ c. change_of c };
 
-    ghost kept_session = { λ v. collected (version_of v) };
+    ghost kept_session = { λ v. collected (version_of v.value) };
 
     ghost order_of = { λ o. o };
 
@@ -167,15 +168,15 @@ impl CellRunner for SessionRunner {
         }
     }
 
-    fn freeze(session: &mut Session) -> Result<Version, AllocError> {
+    fn freeze(session: &mut Session) -> Result<Rc<Version>, AllocError> {
         match session.freeze() {
-            Ok(version) => Ok(version),
+            Ok(version) => Ok(Rc::new(session.allocator(), version)?),
             Err(memory) => Err(memory.into()),
         }
     }
 
-    fn thaw(alloc: Global, version: &Version) -> Result<Session, AllocError> {
-        match Session::thaw(alloc, version) {
+    fn thaw(alloc: Global, version: &Rc<Version>) -> Result<Session, AllocError> {
+        match Session::thaw(alloc, version.as_ref()) {
             Ok(session) => Ok(session),
             Err(memory) => Err(memory.into()),
         }

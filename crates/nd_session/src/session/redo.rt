@@ -1,6 +1,6 @@
-//! `replay` and `redone`: what a cell did, done again to the names and blocks of a session.
+//! `redo`: what a cell did, done again to the names and blocks of a session.
 
-ghost use Rattle.std.specs.Prelude.{◌≡◌, ℕ, [], nat_eq, map, IfOk, OnOk, if◌then◌else◌};
+ghost use Rattle.std.specs.Prelude.{◌≡◌, ℕ, [], nat_eq, map, OnOk, if◌then◌else◌};
 ghost use Rattle.nd_model.specs.Cells.Footprint.{HasNone, patched, replayed};
 ghost use Rattle.nd_model.specs.Cells.Running as running;
 ghost use Rattle.nd_model.specs.Cells.Session as session;
@@ -80,8 +80,8 @@ fn put_back(heap: &mut Heap, written: &FoundByBase) -> Result<(), OutOfMemory>
     Ok(())
 }
 
-/// Makes the changes to names and blocks.
-fn redo(heap: &mut Heap, changes: &Changes) -> Result<(), OutOfMemory>
+/// Makes the changes to names and blocks. After want of memory they are only fit to be dropped.
+pub(crate) fn redo(heap: &mut Heap, changes: &Changes) -> Result<(), OutOfMemory>
     requires { HasNone changes.now.label (session_in heap.old) }
     ensures names { OnOk result (heap.new.names ≡ replayed changes.now.events heap.old.names) }
     ensures session { OnOk result (session.collected (session_in heap.new)
@@ -93,21 +93,4 @@ fn redo(heap: &mut Heap, changes: &Changes) -> Result<(), OutOfMemory>
     put_back(heap, &changes.written)?;
     share_own(heap, &changes.blocks, changes.label)?;
     Ok(())
-}
-
-/// Returns names and blocks with the changes made.
-pub(crate) fn redone(heap: Heap, changes: &Changes) -> Result<Heap, OutOfMemory>
-    requires { HasNone changes.now.label (session_in heap) }
-    ensures names { IfOk result (λ h. h.names ≡ replayed changes.now.events heap.names) }
-    ensures session { IfOk result (λ h. session.collected (session_in h)
-        ≡ changed changes.now (session_in heap)) }
-{
-    let mut heap = heap;
-    match redo(&mut heap, changes) {
-        Ok(()) => Ok(heap),
-        Err(memory) => {
-            drop(heap);
-            Err(memory)
-        }
-    }
 }

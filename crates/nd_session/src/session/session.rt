@@ -23,7 +23,7 @@ ghost use Rattle.nd_model.specs.Cells.Storing.{having_written, having_block};
 
 use crate::session::change::{Change, is_done, next_now, put_over};
 use crate::session::changes::Changes;
-use crate::session::redo::redone;
+use crate::session::redo::redo;
 use crate::session::version::Version;
 use nd_block::RawBlock;
 use nd_heap::{Array, Base, BlockWriter, Heap, OutOfMemory, Value};
@@ -527,14 +527,17 @@ impl Session {
         ensures cell { OnOk result (record (live self.new) { names = []; bytes = λ b. [] }
             ≡ record (running.start changes.now.label model.no_session) { next = changes.now.next }) }
     {
-        let nothing = Heap::new(self.alloc);
-        let heap = replace(&mut self.heap, nothing);
-        let heap = redone(heap, changes)?;
+        match redo(&mut self.heap, changes) {
+            Ok(()) => {}
+            Err(memory) => {
+                let lost = replace(&mut self.heap, Heap::new(self.alloc));
+                drop(lost);
+                return Err(memory);
+            }
+        }
         let seen = replace(&mut self.trace, Trace::new(self.alloc, changes.label));
         drop(seen);
         self.next = changes.next;
-        let nothing = replace(&mut self.heap, heap);
-        drop(nothing);
         Ok(())
     }
 }

@@ -1,9 +1,10 @@
 use Rattle.std.proofs.Common.{ap, ◌∙◌}
 use Rattle.nd_model.specs.Cells.Session.{collected}
 use Rattle.nd_model.specs.Cells.Running.{session_of}
+use Rattle.nd_session.specs.Session.Kept.{version_of}
 use Rattle.nd_session.specs.Session.Live.{live}
 use Rattle.nd_notebook.proofs.Sessions.{collected_twice}
 use Rattle.nd_notebook.proofs.kernel.SessionRunnerCellRunner.freeze.Goals as goal
 
 pub returns-in-Ok-clause-kept : goal.returns-in-Ok-clause-kept
-returns-in-Ok-clause-kept c = ap collected c.in-Ok.ensures.session ∙ collected_twice (session_of (live c.args.session.now))
+returns-in-Ok-clause-kept c = ap (λ v. collected (version_of v)) c.in_ok-new.ensures.ok ∙ ap collected c.in-Ok.ensures.session ∙ collected_twice (session_of (live c.args.session.now))

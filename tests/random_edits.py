@@ -1,19 +1,19 @@
 #!/usr/bin/env python3
-"""tests/random_edits.py [--seconds S] [--seed N]: edited notebooks answer as fresh notebooks of the same cells do.
+"""tests/random_edits.py [--desk] [--seconds S] [--seed N]: edited notebooks answer as fresh notebooks of the same cells do.
 
 A trial is a notebook under fifty random edits, refused ones and changes of the rule among them. One trial of eight
 begins with 40 to 100 cells, so that edits go past several snapshots, and has twenty edits. In one of four of these the
 cells bind up to 150 names, most of which read one array, so that one edit makes more names others than a snapshot notes.
 After each edit the program is asked for all: the sources, texts, refusals and saved files of all cells, the names after
 each, and the values of seven names. The same questions go to a run of the program that is given the rule, the inputs
-and the cells as they are by then, from nothing, and the answers must be the same. Where the program has the word `try`,
-cells are tried before these questions: each must give what it gives where that run has it inserted, and the questions
-show that nothing has changed. Where it has `begin`, one edit of five is several edits that are made as one. Where it has
-`ran`, it must tell the cells that an edit makes stale, as `stale_cells` finds them, and behind a refused edit what it told
-before. Where it has `reads`, each cell must have read what `stale_cells` finds, of the cells that it finds.
+and the cells as they are by then, from nothing, and the answers must be the same. With --desk the scripts have words for
+front ends, as far as the program has them. By `try` cells are tried before these questions: each must give what it gives
+where that run has it inserted, and the questions show that nothing has changed. By `begin` one edit of five is several
+edits that are made as one. `ran` must tell the cells that an edit makes stale, as `stale_cells` finds them, and behind a
+refused edit what it told before. By `reads` each cell must have read what `stale_cells` finds, of the cells that it finds.
 
-The program is that of NDNOTE_PROGRAM, else the one built in crates/ndnote_desk. Exit status 1: a trial failed; its
-script is printed, made short.
+The program is that of NDNOTE_PROGRAM, else the one built in crates/ndnote. Exit status 1: a trial failed; its script is
+printed, made short.
 """
 import argparse
 import os
@@ -29,7 +29,8 @@ sys.dont_write_bytecode = True
 from stale_cells import Pass, Told  # noqa: E402
 
 ROOT = os.path.dirname(os.path.dirname(os.path.abspath(__file__)))
-PROGRAM = os.environ.get("NDNOTE_PROGRAM", os.path.join(ROOT, "crates/ndnote_desk/out/ndnote_desk"))
+PROGRAM = os.environ.get("NDNOTE_PROGRAM", os.path.join(ROOT, "crates/ndnote/out/ndnote"))
+WORDS: List[str] = []   # of its command line
 MOST_CELLS = 12
 EDITS = 50
 LONG_CELLS = (40, 100)
@@ -300,7 +301,7 @@ class Drawer:
 def answers(lines: List[str]) -> List[str]:
     """What the program answers to a script, in the parts between its marks. A byte of a file is a character."""
     script = ("\n".join(lines) + "\n").encode("latin-1")
-    done = subprocess.run([PROGRAM], input=script, capture_output=True, timeout=120, check=False)
+    done = subprocess.run([PROGRAM, *WORDS], input=script, capture_output=True, timeout=120, check=False)
     if done.returncode:
         return [f"exit status {done.returncode}: {done.stderr.decode('latin-1')}"]
     return done.stdout.decode("latin-1").split(MARK + "\n")
@@ -513,11 +514,13 @@ def trial(seed: int, has: Has) -> bool:
 
 def main() -> int:
     parser = argparse.ArgumentParser(description=__doc__.split("\n")[0])
+    parser.add_argument("--desk", action="store_true", help="scripts have words for front ends")
     parser.add_argument("--seconds", type=float, default=120)
     parser.add_argument("--seed", type=int, default=random.randrange(1 << 32))
     options = parser.parse_args()
     if not os.access(PROGRAM, os.X_OK):
         sys.exit(f"there is no program at {PROGRAM}")
+    WORDS.extend(["--desk"] if options.desk else [])
     found = words_of_program()
     told = [name for name, is_there in (("tries are drawn", found.tries), ("several edits as one", found.together),
                                         ("runs are compared", found.ran), ("reads are compared", found.reads)) if is_there]

@@ -1,11 +1,13 @@
-"""What a person meets at ./ndnote: words, statuses, the shipped programs, a changed source, `check`."""
+"""What a person meets at ./ndnote: words, statuses, the shipped program, a changed source, `check`."""
 import hashlib
+import io
 import lzma
 import os
 import pty
 import shutil
 import subprocess
 import sys
+import tarfile
 import tempfile
 import time
 import unittest
@@ -98,9 +100,8 @@ elif sys.argv[1:] == ['ci']:
     if tools['fails'] in names:
         print('0 passed, 1 failed')
         sys.exit(1)
-    for name in ('ndnote', 'ndnote_desk'):
-        os.makedirs(f'crates/{name}/out', exist_ok=True)
-        open(f'crates/{name}/out/{name}', 'w').write(tools['stand_in'])
+    os.makedirs('crates/ndnote/out', exist_ok=True)
+    open('crates/ndnote/out/ndnote', 'w').write(tools['stand_in'])
 elif sys.argv[1:2] == ['try'] and tools['fails']:
     print('src/main.rt:1: a fault of the text')
     sys.exit(1)
@@ -130,10 +131,10 @@ class Tree(unittest.TestCase):
         shutil.copytree(TOP / 'tools' / 'starter', self.top / 'tools' / 'starter', ignore=cached)
         shutil.copy2(TOP / 'ndnote', self.top / 'ndnote')
         self.put('python/ndnote/tunables', (TOP / 'python/ndnote/tunables').read_text())
-        self.put('crates.txt', 'base:   # lowest\ndesk: base\nndnote: base std\nndnote_desk: desk\nother: base\n')
+        self.put('crates.txt', 'base:   # lowest\ndesk: base\nndnote: desk std\nother: base\n')
         self.put('HANDLES', 'Handles allowed: none.\n')
         for name in ('base/src/lib.rt', 'base/proofs/f/Proof.antt', 'desk/src/lib.rt', 'ndnote/src/main.rt',
-                     'ndnote_desk/src/main.rt', 'other/src/lib.rt'):
+                     'other/src/lib.rt'):
             self.put(f'crates/{name}', f'{name}\n')
         self.put('first.ndn', 'insert 0\nx = 1\n.\nshow 0\n')
 
@@ -143,9 +144,9 @@ class Tree(unittest.TestCase):
         path.write_bytes(text.encode())
         return path
 
-    def ship(self, program: str = STAND_IN, desk: str = STAND_IN) -> None:
-        programs = {'ndnote': program.encode(), 'ndnote_desk': desk.encode()}
-        shipped.pack(self.top, programs, shipped.Sum.of(sources.sum_of(self.top), 'a toolchain', programs))
+    def ship(self, text: str = STAND_IN) -> None:
+        program = text.encode()
+        shipped.pack(self.top, program, shipped.Sum.of(sources.sum_of(self.top), 'a toolchain', program))
 
     def start(self, *words: str, given: bytes = b'', cwd: Optional[Path] = None, env: Optional[Dict[str, str]] = None
               ) -> 'subprocess.CompletedProcess[bytes]':
@@ -202,7 +203,7 @@ class Words(Tree):
     def test_no_program(self) -> None:
         ran = self.start('--script', 'first.ndn')
         self.assertEqual((ran.returncode, ran.stdout), (3, b''))
-        for told in (b'no proved program', b'--preview', b'--build', b'4 crates'):
+        for told in (b'no proved program', b'--preview', b'--build', b'3 crates'):
             self.assertIn(told, ran.stderr)
 
     def test_words_and_statuses_are_the_program_s(self) -> None:
@@ -234,16 +235,15 @@ class Words(Tree):
         ran = subprocess.run(['../../../link', '--script', 's.ndn'], cwd=cwd, stdout=subprocess.PIPE, check=False)
         self.assertEqual(ran.stdout, b'count 0\n')
 
-    def test_books_get_the_program_for_front_ends(self) -> None:
-        self.ship(desk=STAND_IN.replace("f'count {len(cells)}'", "'count desk'"))
+    def test_books_get_the_program(self) -> None:
+        self.ship()
         self.put_module()
         for word in ('run', 'page', 'live'):
             ran = self.start(word, 'book.py', '--titles', cwd=self.top.parent)
-            self.assertEqual(ran.stdout.decode(), f"b'count desk\\n' {word} book.py --titles\n")
-        self.assertEqual(self.start(given=b'count\n').stdout, b'count 0\n')
+            self.assertEqual(ran.stdout.decode(), f"b'count 0\\n' {word} book.py --titles\n")
         self.put('s.ndn', 'count\n')
         self.assertEqual(self.start('check', 's.ndn').stdout, b'count 0\n')
-        self.assertEqual([name.partition('-')[0] for name in self.unpacked()], ['ndnote', 'ndnote_desk'])
+        self.assertEqual(len(self.unpacked()), 1)
 
 
 class Shipped(Tree):
@@ -264,7 +264,7 @@ class Shipped(Tree):
                 path = self.top / name
                 before = path.read_bytes() if path.is_file() else None
                 self.assertEqual(self.start(given=b'').returncode, 0)
-                self.put(name, 'base:\ndesk:\nndnote: base\nndnote_desk: desk\nother:\n')
+                self.put(name, 'base:\ndesk:\nndnote: base desk\nother:\n')
                 ran = self.start(given=b'count\n')
                 self.assertEqual((ran.returncode, ran.stdout), (3, b''))
                 self.assertIn(b'not yet proved', ran.stderr)
@@ -281,7 +281,7 @@ class Shipped(Tree):
     def test_what_is_kept_is_never_stale(self) -> None:
         self.ship()
         self.start()
-        kept = self.top / 'dist/.unpacked/proved-ndnote.kept'
+        kept = self.top / 'dist/.unpacked/proved.kept'
         self.assertFalse(kept.exists(), 'sources that changed just now may change again')
         time.sleep(sources.SETTLED + 0.2)
         self.start()
@@ -299,15 +299,14 @@ class Shipped(Tree):
         program.write_text('#!/bin/sh\necho other\n')
         self.assertEqual(self.start(given=b'count\n').stdout, b'count 0\n')
 
-    def test_each_program_is_kept_for_itself(self) -> None:
-        self.ship(desk=STAND_IN.replace("f'count {len(cells)}'", "'count desk'"))
+    def test_what_is_kept_is_for_books_and_for_scripts(self) -> None:
+        self.ship()
         self.put_module()
         time.sleep(sources.SETTLED + 0.2)
         for _ in range(2):
-            self.assertIn(b'count desk', self.start('run', 'b.py').stdout)
+            self.assertIn(b'count 0', self.start('run', 'b.py').stdout)
             self.assertEqual(self.start(given=b'count\n').stdout, b'count 0\n')
-        self.assertEqual(sorted(path.name for path in (self.top / shipped.UNPACKED).glob('*.kept')),
-                         ['proved-ndnote.kept', 'proved-ndnote_desk.kept'])
+        self.assertEqual([path.name for path in (self.top / shipped.UNPACKED).glob('*.kept')], ['proved.kept'])
         self.put('crates/desk/src/lib.rt', 'changed\n')
         for words in (('run', 'b.py'), ()):
             self.assertEqual(self.start(*words, given=b'count\n').returncode, 3)
@@ -326,16 +325,26 @@ class Shipped(Tree):
                 self.assertNotIn(b'Traceback', ran.stderr)
                 self.assertEqual(self.unpacked(), [])
 
+    def pack(self, files: Dict[str, bytes]) -> None:
+        """Puts files in the place of what is shipped."""
+        whole = io.BytesIO()
+        with tarfile.open(fileobj=whole, mode='w') as tar:
+            for name, data in files.items():
+                entry = tarfile.TarInfo(name)
+                entry.size = len(data)
+                tar.addfile(entry, io.BytesIO(data))
+        (self.top / shipped.PACKED).write_bytes(lzma.compress(whole.getvalue()))
+
     def test_another_program_in_the_pack(self) -> None:
         self.ship()
-        told = shipped.sum_in(self.top / shipped.SUM)
         right, other = STAND_IN.encode(), b'#!/bin/sh\necho other\n'
-        for programs in ({'ndnote': other, 'ndnote_desk': right}, {'ndnote': right, 'ndnote_desk': other},
-                         {'ndnote': right}, {'ndnote': right, 'ndnote_desk': right, 'more': right}, {}):
-            shipped.pack(self.top, programs, told)
+        for files in ({'ndnote': other}, {'other': right}, {'ndnote': right, 'more': right}, {}):
+            self.pack(files)
             ran = self.start(given=b'count\n')
             self.assertEqual((ran.returncode, ran.stdout), (3, b''))
-            self.assertIn(b'does not hold the programs', ran.stderr)
+            self.assertIn(b'does not hold the program', ran.stderr)
+        self.pack({'ndnote': right})
+        self.assertEqual(self.start(given=b'count\n').stdout, b'count 0\n')
 
     def test_many_starts_at_once(self) -> None:
         self.ship()
@@ -360,9 +369,8 @@ class Shipped(Tree):
     def test_a_build_of_these_sources_is_taken_before_the_pack(self) -> None:
         self.ship()
         built = STAND_IN.replace("f'count {len(cells)}'", "'count built'").encode()
-        programs = {name: built for name in sources.PROGRAMS}
-        told = shipped.Sum.of(sources.sum_of(self.top), 'a toolchain', programs)
-        proved.put(self.top, programs, told)
+        told = shipped.Sum.of(sources.sum_of(self.top), 'a toolchain', built)
+        proved.put(self.top, built, told)
         self.put_module()
         self.assertEqual(self.start(given=b'count\n').stdout, b'count built\n')
         self.assertIn(b'count built', self.start('run', 'b.py').stdout)
@@ -372,9 +380,8 @@ class Shipped(Tree):
 
 class Building(Tree):
     def test_crates_lowest_first(self) -> None:
-        self.assertEqual(sources.crates(self.top), ['base', 'ndnote', 'desk', 'ndnote_desk'])
-        self.assertEqual(sources.crates(self.top, sources.preview_of('ndnote')), ['base', 'ndnote'])
-        for text in ('ndnote: a\na: ndnote\nndnote_desk:\n', 'ndnote:\n', 'ndnote_desk:\n'):
+        self.assertEqual(sources.crates(self.top), ['base', 'desk', 'ndnote'])
+        for text in ('ndnote: a\na: ndnote\n', 'other:\n'):
             self.put('crates.txt', text)
             with self.assertRaises(sources.Unreadable):
                 sources.crates(self.top)
@@ -382,8 +389,7 @@ class Building(Tree):
     def test_the_sum_is_that_of_sha256sum(self) -> None:
         names = list(sources.files(self.top))
         self.assertEqual(names, ['HANDLES', 'crates.txt', 'crates/base/proofs/f/Proof.antt', 'crates/base/src/lib.rt',
-                                 'crates/desk/src/lib.rt', 'crates/ndnote/src/main.rt',
-                                 'crates/ndnote_desk/src/main.rt'])
+                                 'crates/desk/src/lib.rt', 'crates/ndnote/src/main.rt'])
         told = subprocess.run(['sha256sum', *names], cwd=self.top, stdout=subprocess.PIPE, check=True).stdout
         self.assertEqual(sources.sum_of(self.top), hashlib.sha256(told).hexdigest())
 
@@ -396,25 +402,25 @@ class Building(Tree):
         env = self.fake_rt()
         ran = self.start('--build', env=env)
         self.assertEqual((ran.returncode, ran.stdout), (0, b''), ran.stderr)
-        self.assertIn(b'4 crates are proved by a toolchain, 4 of them now', ran.stderr)
+        self.assertIn(b'3 crates are proved by a toolchain, 3 of them now', ran.stderr)
         self.put_module()
         self.assertEqual(self.start(given=b'count\n').stdout, b'count 0\n')
         self.assertIn(b'count 0', self.start('run', 'b.py').stdout)
         room = next((self.top.parent / 'cache/ndnote').iterdir())
-        self.assertEqual(sorted(os.listdir(room / 'crates')), ['base', 'desk', 'ndnote', 'ndnote_desk'])
+        self.assertEqual(sorted(os.listdir(room / 'crates')), ['base', 'desk', 'ndnote'])
 
     def test_what_is_kept_is_told(self) -> None:
         ran = self.start('--build', env=self.fake_rt(kept='base'))
         self.assertEqual(ran.returncode, 0, ran.stderr)
-        self.assertIn(b'4 of 4 crates', ran.stderr)
-        self.assertIn(b'4 crates are proved by a toolchain, 3 of them now', ran.stderr)
+        self.assertIn(b'3 of 3 crates', ran.stderr)
+        self.assertIn(b'3 crates are proved by a toolchain, 2 of them now', ran.stderr)
 
     def test_a_refused_crate(self) -> None:
         ran = self.start('--build', env=self.fake_rt('base'))
         self.assertEqual(ran.returncode, 3)
         self.assertIn(b'the goal stays open', ran.stderr)
         self.assertIn(b'base NOT PROVED', ran.stderr)
-        self.assertFalse(any((self.top / proved.built(name)).exists() for name in sources.PROGRAMS))
+        self.assertFalse((self.top / proved.BUILT).exists())
 
     def test_no_toolchain(self) -> None:
         paths = os.environ['PATH'].split(os.pathsep)
@@ -436,16 +442,15 @@ class Building(Tree):
                 self.assertIn(b'rests on no proof', ran.stderr)
                 self.assertEqual(len(self.calls()), calls)
 
-    def test_each_program_has_its_preview(self) -> None:
+    def test_a_preview_is_for_books_and_for_scripts(self) -> None:
         env = self.fake_rt()
         self.put_module()
-        for name, calls in (('HANDLES', [1, 2]), ('crates/desk/src/lib.rt', [3, 3]),
-                            ('crates/ndnote/src/main.rt', [3, 4])):
+        for name, calls in (('HANDLES', 1), ('crates/desk/src/lib.rt', 2), ('crates/ndnote/src/main.rt', 3)):
             self.put(name, 'changed\n')
-            for words, count in zip((('run', 'b.py'), ()), calls):
+            for words in (('run', 'b.py'), ()):
                 ran = self.start('--preview', *words, given=b'count\n', env=env)
                 self.assertIn(b'count', ran.stdout, ran.stderr)
-                self.assertEqual(len(self.calls()), count, name)
+                self.assertEqual(len(self.calls()), calls, name)
 
     def test_a_preview_that_is_not_built(self) -> None:
         ran = self.start('--preview', '--script', 'first.ndn', env=self.fake_rt('base'))
@@ -461,9 +466,8 @@ class Release(Tree):
             self.put(f'examples/{script.name}', script.read_text())
         self.env = self.fake_rt()
 
-    def build(self, program: str = STAND_IN, desk: str = STAND_IN) -> None:
-        for name, text in zip(sources.PROGRAMS, (program, desk)):
-            sources.write(self.top / proved.built(name), text.encode(), 0o755)
+    def build(self, text: str = STAND_IN) -> None:
+        sources.write(self.top / proved.BUILT, text.encode(), 0o755)
 
     def release(self, *words: str, **env: str) -> 'subprocess.CompletedProcess[str]':
         return subprocess.run([str(self.top / 'tools' / 'release'), *words], env={**os.environ, **self.env, **env},
@@ -477,9 +481,6 @@ class Release(Tree):
     def test_release_and_check(self) -> None:
         self.assertTells(1, 'there is no crates/ndnote/out/ndnote')
         self.build()
-        (self.top / proved.built('ndnote_desk')).unlink()
-        self.assertTells(1, 'there is no crates/ndnote_desk/out/ndnote_desk')
-        self.build()
         self.assertTells(1, 'there is no dist/ndnote.sum', '--check')
         self.assertTells(0, f'the sources {sources.sum_of(self.top)[:12]}')
         self.assertTells(0, 'byte for byte', '--check')
@@ -491,17 +492,11 @@ class Release(Tree):
         self.release()
         alike = 'answers the 3 examples'
         self.assertTells(0, alike, '--check', FAKE_TOOLCHAIN='another')
-        for name in sources.PROGRAMS:
-            def built(text: str) -> List[str]:
-                return [text if it == name else STAND_IN for it in sources.PROGRAMS]
-            self.build(*built(STAND_IN + '# other bytes\n'))
-            self.assertTells(1, f'not, byte for byte, crates/{name}/out/{name}:', '--check')
-            self.assertTells(0, alike, '--check', FAKE_TOOLCHAIN='another')
-            self.build(*built('#!/bin/sh\necho another answer\n'))
-            self.assertTells(1, f'{name} answers atomic.ndn otherwise', '--check', FAKE_TOOLCHAIN='another')
-        self.put('crates/desk/src/lib.rt', 'changed\n')
-        self.assertTells(1, 'the sources are not those', '--check')
-        self.assertTells(1, 'crates/desk/src/lib.rt is younger than crates/ndnote_desk')
+        self.build(STAND_IN + '# other bytes\n')
+        self.assertTells(1, 'not, byte for byte, crates/ndnote/out/ndnote:', '--check')
+        self.assertTells(0, alike, '--check', FAKE_TOOLCHAIN='another')
+        self.build('#!/bin/sh\necho another answer\n')
+        self.assertTells(1, 'answers atomic.ndn otherwise', '--check', FAKE_TOOLCHAIN='another')
         self.build()
         self.put('crates/base/src/lib.rt', 'changed\n')
         self.assertTells(1, 'the sources are not those', '--check')
@@ -579,8 +574,8 @@ class Real(Tree):
 
     def setUp(self) -> None:
         super().setUp()
-        programs = {name: Path(real_program() or '').read_bytes() for name in sources.PROGRAMS}
-        proved.put(self.top, programs, shipped.Sum.of(sources.sum_of(self.top), 'a toolchain', programs))
+        program = Path(real_program() or '').read_bytes()
+        proved.put(self.top, program, shipped.Sum.of(sources.sum_of(self.top), 'a toolchain', program))
 
     def test_examples(self) -> None:
         for script in sorted((TOP / 'examples').glob('*.ndn')):
@@ -610,8 +605,18 @@ class Real(Tree):
             ran = self.start(*words)
             self.assertEqual((ran.returncode, ran.stdout, ran.stderr.decode().splitlines()[-1]), (status, b'', told))
 
+    def test_words_for_front_ends_are_asked_for(self) -> None:
+        self.put('s.ndn', 'words\ncount\n')
+        self.assertEqual(self.start('--script', 's.ndn').stdout, b'bad command\ncount 0\n')
+        for words in (('--desk', '--script', 's.ndn'), ('--script', 's.ndn', '--desk', '--progress')):
+            ran = self.start(*words)
+            self.assertEqual((ran.returncode, ran.stdout[:6], ran.stdout[-8:]), (0, b'words ', b'count 0\n'))
+        ran = self.start('--script', 's.ndn', '--progress')
+        self.assertEqual((ran.returncode, ran.stdout), (2, b''))
+        self.assertIn(b'--desk', ran.stderr)
+
     def test_the_program_s_own_help_is_a_refused_command_line(self) -> None:
-        words = [str(self.top / proved.built('ndnote')), '--help']
+        words = [str(self.top / proved.BUILT), '--help']
         ran = subprocess.run(words, stdout=subprocess.PIPE, stderr=subprocess.PIPE, timeout=60, check=False)
         self.assertEqual((ran.returncode, ran.stdout), (2, b''))
         self.assertIn(b'NAME=PATH', ran.stderr)

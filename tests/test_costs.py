@@ -29,12 +29,6 @@ def real_program() -> Optional[str]:
     return None
 
 
-def real_desk() -> Optional[str]:
-    """The program for front ends that is built here."""
-    path = str(TOP / 'crates/ndnote_desk/out/ndnote_desk')
-    return path if os.access(path, os.X_OK) else None
-
-
 def arrays(count: int) -> list[str]:
     """Cells of which none reads what another made."""
     return [f'v{k} = np.arange(4)' for k in range(count)]
@@ -137,15 +131,16 @@ class Costs(unittest.TestCase):
         self.assertLess(many - fewer, 50 * SNAPSHOTS)
 
 
+@unittest.skipUnless(real_program(), 'no program: NDNOTE_PROGRAM, or crates/ndnote/out/ndnote')
 class FarEdits(unittest.TestCase):
     """Processor times, each the least of some turns: edits in front, and then one of a cell far down. Were the snapshots
     dropped, the second would replay all records in front of it."""
 
     CELLS, FAR, TURNS = 2_000, 1_960, 5
 
-    def slowdown(self, path: str, cells: list[str], front: str, far: str) -> float:
+    def slowdown(self, cells: list[str], front: str, far: str) -> float:
         """The edit far down by the time of inserting all. Both texts have the number of the turn, which makes other values."""
-        program = Program(path)
+        program = Program(real_program(), '--desk')
         self.addCleanup(program.close)
         whole, times = program.load(cells), []
         for turn in range(1, self.TURNS + 1):
@@ -153,16 +148,14 @@ class FarEdits(unittest.TestCase):
             times.append(program.edit(self.FAR, far.format(turn))[0])
         return min(times) / whole
 
-    @unittest.skipUnless(real_program(), 'no program: NDNOTE_PROGRAM, or crates/ndnote/out/ndnote')
     def test_behind_an_edit_that_all_cells_read(self) -> None:
-        slowdown = self.slowdown(real_program(), readers(self.CELLS), 'edit 0\nv0 = np.arange(4) + {0}\n.\n',
+        slowdown = self.slowdown(readers(self.CELLS), 'edit 0\nv0 = np.arange(4) + {0}\n.\n',
                                  f'v{self.FAR} = v0 + {self.CELLS} + {{0}}')
         self.assertLess(slowdown, 1 / 100)
 
-    @unittest.skipUnless(real_desk(), 'no program: crates/ndnote_desk/out/ndnote_desk')
     def test_behind_several_edits_as_one(self) -> None:
         edits = ''.join(f'edit {at}\nv{at} = np.arange(4) + {{0}}\n.\n' for at in (3, 9))
-        slowdown = self.slowdown(real_desk(), arrays(self.CELLS), f'begin\n{edits}end\n',
+        slowdown = self.slowdown(arrays(self.CELLS), f'begin\n{edits}end\n',
                                  f'v{self.FAR} = np.arange(4) + {{0}}')
         self.assertLess(slowdown, 1 / 100)
 

@@ -1,4 +1,5 @@
-"""What `ndnote_desk --progress` tells on standard error: each run of a cell, and no other cell."""
+"""What `ndnote --desk --progress` tells on standard error: each run of a cell, and no other cell."""
+import os
 import re
 import subprocess
 import unittest
@@ -6,8 +7,7 @@ from pathlib import Path
 from typing import List, Tuple
 
 TOP = Path(__file__).resolve().parents[1]
-DESK = TOP / 'crates/ndnote_desk/out/ndnote_desk'
-PLAIN = TOP / 'crates/ndnote/out/ndnote'
+PROGRAM = os.path.abspath(os.environ.get('NDNOTE_PROGRAM') or TOP / 'crates/ndnote/out/ndnote')
 PAIR = re.compile(r'run (\d+)\ndone (\d+) \d+\n')
 
 
@@ -22,7 +22,7 @@ BOOK = cell('insert', 0, 'x = 1') + cell('insert', 1, 'y = 2') + cell('insert', 
 class Progress(unittest.TestCase):
     def told(self, script: str) -> Tuple[List[int], str]:
         """The places of the cells that are told to run, and the answers."""
-        ran = subprocess.run([str(DESK), '--progress'], input=script, capture_output=True, text=True, timeout=60)
+        ran = subprocess.run([PROGRAM, '--desk', '--progress'], input=script, capture_output=True, text=True, timeout=60)
         self.assertEqual(ran.returncode, 0, ran.stderr)
         pairs = PAIR.findall(ran.stderr)
         self.assertEqual(PAIR.sub('', ran.stderr), '')
@@ -56,19 +56,22 @@ class Progress(unittest.TestCase):
 
     def test_no_answer_depends_on_it(self) -> None:
         script = BOOK + cell('edit', 0, 'x = 9') + 'show 2\n'
-        silent = subprocess.run([str(DESK)], input=script, capture_output=True, text=True, timeout=60)
+        silent = subprocess.run([PROGRAM, '--desk'], input=script, capture_output=True, text=True, timeout=60)
         self.assertEqual((silent.returncode, silent.stderr), (0, ''))
         self.assertEqual(self.told(script)[1], silent.stdout)
 
     def test_no_standard_error(self) -> None:
         """Lines that cannot be told are left out."""
         with open('/dev/full', 'w') as full:
-            ran = subprocess.run([str(DESK), '--progress'], input=BOOK, stdout=subprocess.PIPE, stderr=full, text=True, timeout=60)
+            ran = subprocess.run([PROGRAM, '--desk', '--progress'], input=BOOK, stdout=subprocess.PIPE, stderr=full,
+                                 text=True, timeout=60)
         self.assertEqual((ran.returncode, ran.stdout), (0, 'ok\nok\nok\n'))
 
-    def test_the_plain_program_has_no_such_option(self) -> None:
-        ran = subprocess.run([str(PLAIN), '--progress'], input='', capture_output=True, text=True, timeout=60)
+    def test_it_is_refused_without_the_words_for_front_ends(self) -> None:
+        ran = subprocess.run([PROGRAM, '--progress'], input='count\n', capture_output=True, text=True, timeout=60)
         self.assertEqual((ran.returncode, ran.stdout), (2, ''))
+        self.assertIn('ndnote: ', ran.stderr)
+        self.assertIn('--desk', ran.stderr)
 
 
 if __name__ == '__main__':

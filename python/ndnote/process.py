@@ -31,18 +31,12 @@ class Died(Exception):
 
 
 def program() -> str:
-    """The path of the program: $NDNOTE_PROGRAM, or what the checkout around this package has built for front ends."""
+    """The path of the program: $NDNOTE_PROGRAM, or what the checkout around this package has built."""
     told = os.environ.get('NDNOTE_PROGRAM')
-    path = Path(told) if told else Path(__file__).resolve().parents[2] / 'crates/ndnote_desk/out/ndnote_desk'
+    path = Path(told) if told else Path(__file__).resolve().parents[2] / 'crates/ndnote/out/ndnote'
     if not path.is_file():
         raise FileNotFoundError(f'{path}: the program is not built; NDNOTE_PROGRAM may name another')
     return str(path)
-
-
-def takes_progress(path: str) -> bool:
-    """Whether a program tells which cell runs. One that does not refuses the option, before it reads anything."""
-    nothing = subprocess.DEVNULL
-    return subprocess.run([path, '--progress'], stdin=nothing, stdout=nothing, stderr=nothing).returncode == 0
 
 
 class Said:
@@ -72,8 +66,7 @@ class Process:
     """The program, which is sent lines and bytes and sends such back."""
 
     def __init__(self, path: Optional[str] = None, memory: Optional[int] = None, progress: bool = False) -> None:
-        path = path or program()
-        words = [path, '--progress'] if progress and takes_progress(path) else [path]
+        words = [path or program(), '--desk', *(['--progress'] if progress else [])]
         self._process = subprocess.Popen(words, stdin=subprocess.PIPE, stdout=subprocess.PIPE, stderr=subprocess.PIPE,
                                          env={'GLIBC_TUNABLES': TUNABLES, **os.environ})
         self._said = Said(self._process.stderr)
@@ -97,7 +90,7 @@ class Process:
 
     @property
     def running(self) -> Optional[int]:
-        """The place of the cell that runs now, where the program was asked to tell it and can."""
+        """The place of the cell that runs now, where the program was asked to tell it."""
         return self._said.running
 
     def kill(self) -> None:

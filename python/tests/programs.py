@@ -14,20 +14,20 @@ NEW_WORDS = {'begin', 'part', 'ran', 'raw', 'reads'}
 
 def words_of(path: str) -> set[str]:
     """The words that a program says to have."""
-    told = subprocess.run([path], input=b'words\n', stdout=subprocess.PIPE, timeout=60).stdout.decode()
+    told = subprocess.run([path, '--desk'], input=b'words\n', stdout=subprocess.PIPE, timeout=60).stdout.decode()
     return set(told.split()[1:])
 
 
 def has_all_words(path: str) -> bool:
-    return NEW_WORDS <= words_of(path) and process.takes_progress(path)
+    return NEW_WORDS <= words_of(path)
 
 
 class WithoutWords:
-    """Tests over a program for scripts alone."""
+    """Tests over a program that says to have no words, and does not tell which cell runs."""
 
     def setUp(self) -> None:
         for patched in (mock.patch.object(Notebook, 'words', frozenset()),
-                        mock.patch.object(process, 'takes_progress', lambda path: False)):
+                        mock.patch.object(process.Process, 'running', None)):
             patched.start()
             self.addCleanup(patched.stop)
         super().setUp()

@@ -7,7 +7,6 @@ from pathlib import Path
 
 import ndnote
 from ndnote import Died, Notebook, Refused
-from ndnote.process import takes_progress
 from ndnote.values import Layout, Value
 
 try:
@@ -154,9 +153,8 @@ class Progress(unittest.TestCase):
         return book
 
     def test_the_cell_that_runs_and_the_messages(self):
-        path = self.program('[ "$1" = --progress ] || exit 2\nread line || exit 0\n'
+        path = self.program('[ "$*" = "--desk --progress" ] || exit 2\nread line || exit 0\n'
                             'echo run 3 >&2; echo done 3 17 >&2; echo run 12 >&2; echo no memory >&2; kill -9 $$\n')
-        self.assertTrue(takes_progress(path))
         book = self.book(path)
         self.assertIsNone(book.running)
         with self.assertRaises(Died) as died:
@@ -164,15 +162,15 @@ class Progress(unittest.TestCase):
         self.assertEqual((str(died.exception), book.running), ('ended by signal 9: no memory', 12))
         self.assertEqual(str(died.exception.placed('the cell')), 'ended by signal 9 in the cell: no memory')
 
-    def test_a_program_that_does_not_tell_is_started_without_the_option(self):
-        path = self.program('[ $# = 0 ] || exit 2\nread line\necho ok\nread line\n')
-        self.assertFalse(takes_progress(path))
-        book = self.book(path)
+    def test_a_notebook_that_is_not_to_tell_is_started_without_the_option(self):
+        path = self.program('[ "$*" = --desk ] || exit 2\nread line\necho ok\nread line\n')
+        book = Notebook(path)
+        self.addCleanup(book.close)
         book.remove(0)
         self.assertIsNone(book.running)
 
     def test_much_that_is_told_stops_nothing(self):
-        path = self.program('[ "$1" = --progress ] || exit 2\nread line || exit 0\n'
+        path = self.program('[ "$*" = "--desk --progress" ] || exit 2\nread line || exit 0\n'
                             'for i in `seq 20000`; do echo run $i; echo done $i 1; echo some words; done >&2\n'
                             'echo ok\nread line\n')
         book = self.book(path)

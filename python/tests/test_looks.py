@@ -136,7 +136,7 @@ class Looks(unittest.TestCase):
 
 
 class LooksWithoutWords(WithoutWords, Looks):
-    """The same over a program for scripts alone."""
+    """The same over a program without words."""
 
 
 class LooksWithAllWords(WithAllWords, Looks):

@@ -190,7 +190,7 @@ class Sessions(Opened):
 
 
 class SessionsWithoutWords(WithoutWords, Sessions):
-    """The same over a program for scripts alone."""
+    """The same over a program without words."""
 
 
 class SessionsWithAllWords(WithAllWords, Sessions):

@@ -385,7 +385,7 @@ class Calls(Folder):
 
 
 class CallsWithoutWords(WithoutWords, Calls):
-    """The same over a program for scripts alone."""
+    """The same over a program without words."""
 
 
 class CallsWithAllWords(WithAllWords, Calls):
@@ -454,11 +454,6 @@ class NewLines(WithAllWords, Told):
 class Lines(Told):
     """What the program itself answers."""
 
-    def setUp(self):
-        super().setUp()
-        if not self.book.words:
-            self.skipTest('the program has no words: NDNOTE_PROGRAM names one for scripts alone')
-
     def test_the_words(self):
         word, *words = self.told('words').split(' ')
         self.assertEqual(word, 'words')
@@ -481,7 +476,7 @@ class Lines(Told):
         for script, told in ((b'try 0\nprint(1)\n', b'bad command\n'), (b'try 5\n', b'bad command\n'),
                              (b'try 0\n.', b'text 0\nok\nend\n'),
                              (b'try 0\n# try\n.\ncount\n', b'text 0\nok\nend\ncount 0\n')):
-            ran = subprocess.run([program()], input=script, stdout=subprocess.PIPE, timeout=60, check=True)
+            ran = subprocess.run([program(), '--desk'], input=script, stdout=subprocess.PIPE, timeout=60, check=True)
             self.assertEqual(ran.stdout, told, script)
 
     def test_a_try_has_its_files_in_its_answer(self):
@@ -547,7 +542,7 @@ class Lines(Told):
         user = {'user': 65534, 'group': 65534, 'extra_groups': []} if os.geteuid() == 0 else {}
         script = (f"input f file {own}/f\ninsert 0\nnp.save('f', 1)\n.\n"
                   f'save 0 f {closed}/f\nsave 0 f {closed}/g\nsave 0 f {own}/g\n')
-        ran = subprocess.run([copy], input=script, text=True, stdout=subprocess.PIPE, timeout=60, check=True, **user)
+        ran = subprocess.run([copy, '--desk'], input=script, text=True, stdout=subprocess.PIPE, timeout=60, check=True, **user)
         self.assertEqual(ran.stdout, 'refused Unread PermissionDenied\nok\nrefused Unwritten PermissionDenied\n'
                                      'refused Unwritten PermissionDenied\nok\n')
         self.assertEqual((sorted(os.listdir(closed)), (closed / 'f').read_bytes()), (['f'], b'old'))

@@ -4,7 +4,7 @@ from __future__ import annotations
 import re
 from dataclasses import dataclass
 from pathlib import Path
-from typing import Dict, List, Tuple
+from typing import Dict, List, Sequence, Tuple
 
 from commands import commands_of
 from judging import Commands, Fault, Script
@@ -42,13 +42,13 @@ class Notebook:
     The answers are those of a program in which nothing is refused.
     """
 
-    def __init__(self, path: Path, program: str, shim: str) -> None:
+    def __init__(self, path: Path, program: str, shim: str, words: Sequence[str] = ()) -> None:
         self.name = path.stem
         commands = tuple(commands_of(path.read_bytes()))
         self.questions = questions_of(commands)
         self.commands = commands + tuple(commands_of(self.questions))
         self.script = Script(self.commands, lambda commands: self.told(commands).answers)
-        self.blank = Steered(program, shim)
+        self.blank = Steered(program, shim, words)
         self.known: Dict[Commands, Told] = {}
 
     def told(self, commands: Commands) -> Told:

@@ -1,11 +1,10 @@
-"""setting: the programs that are tested, the library that lets them fail, and how much is to be tried."""
+"""setting: the program that is tested, the library that lets it fail, and how much is to be tried."""
 from __future__ import annotations
 
 import atexit
 import functools
 import os
 import random
-import subprocess
 import sys
 import tempfile
 import unittest
@@ -23,20 +22,11 @@ IS_ALL = os.environ.get('NDNOTE_ALL') == 'true'
 SEED = int(os.environ.get('NDNOTE_SEED') or random.randrange(1 << 32))
 
 
-def program(name: str = 'ndnote') -> str:
-    """The path of a built program, or that of the one that $NDNOTE_PROGRAM names."""
-    path = os.path.abspath(os.environ.get('NDNOTE_PROGRAM') or TOP / 'crates' / name / 'out' / name)
+def program() -> str:
+    """The path of the built program, or that of the one that $NDNOTE_PROGRAM names."""
+    path = os.path.abspath(os.environ.get('NDNOTE_PROGRAM') or TOP / 'crates/ndnote/out/ndnote')
     if not os.path.isfile(path):
         raise FileNotFoundError(f'{path}: the program is not built; NDNOTE_PROGRAM may name another')
-    return path
-
-
-def desk() -> str:
-    """The path of the program for front ends. A program without words skips the test, and says so."""
-    path = program('ndnote_desk')
-    told = subprocess.run([path], input=b'words\n', stdout=subprocess.PIPE, check=False, timeout=60).stdout
-    if not told.startswith(b'words '):
-        raise unittest.SkipTest('the program has no words: NDNOTE_PROGRAM names one for scripts alone')
     return path
 
 

@@ -7,7 +7,7 @@ import struct
 import subprocess
 import tempfile
 from dataclasses import dataclass
-from typing import List, Optional
+from typing import List, Optional, Sequence
 
 RUN, FORK, LEAVE, END = 1, 2, 3, 4
 ORDER = struct.Struct('=qqq')
@@ -29,7 +29,7 @@ class Step:
 class Steered:
     """A running program. Where it is forked, all steps up to `leave` are those of the fork."""
 
-    def __init__(self, program: str, shim: str) -> None:
+    def __init__(self, program: str, shim: str, words: Sequence[str] = ()) -> None:
         self.script_from, self.script_to = os.pipe()
         orders, self.orders = os.pipe()
         self.reports, reports = os.pipe()
@@ -37,8 +37,8 @@ class Steered:
         self.read = self.told = self.sent = 0
         self.outside: List[int] = []
         environment = {'LD_PRELOAD': shim, 'STEER_FROM': str(orders), 'STEER_TO': str(reports)}
-        self.process = subprocess.Popen([program], stdin=self.script_from, stdout=self.answers, stderr=self.messages,
-                                        env=environment, pass_fds=(orders, reports))
+        self.process = subprocess.Popen([program, *words], stdin=self.script_from, stdout=self.answers,
+                                        stderr=self.messages, env=environment, pass_fds=(orders, reports))
         os.close(orders), os.close(reports)
         self.await_report()
 

@@ -9,11 +9,12 @@ from collections import Counter
 from pathlib import Path
 from typing import List
 
-from setting import IS_ALL, SEED, desk, refusals, shim, tell
+from setting import IS_ALL, SEED, program, refusals, shim, tell
 from test_allocations import MOST, summary
 from trials import try_notebook
 
 SCRIPT = Path(__file__).with_name('desks') / 'words.ndn'
+DESK = ('--desk',)
 MOST_OF_WORDS = 60      # allocations that are tried of each command
 SIZES = (0, 7, 64)      # bytes of a read or a write; 0: as the program asks
 CELL = b"insert 0\nx = np.arange(40)\nnp.save('f', x)\n.\n"
@@ -24,13 +25,13 @@ CAUSES = {errno.EIO: b'Failed', errno.ENOSPC: b'StorageFull', errno.EROFS: b'Rea
 
 class Room(unittest.TestCase):
     def setUp(self) -> None:
-        self.desk, self.shim = desk(), shim()
+        self.program, self.shim = program(), shim()
         room = tempfile.TemporaryDirectory(prefix='ndnote-desk-')
         self.addCleanup(room.cleanup)
         self.room = Path(room.name).resolve()
 
     def run_with(self, script: bytes, faults: refusals.Faults = refusals.NO_FAULTS) -> refusals.Ran:
-        return refusals.run([self.desk], script, self.shim, faults)
+        return refusals.run([self.program, *DESK], script, self.shim, faults)
 
 
 class OfAllocations(Room):
@@ -41,7 +42,7 @@ class OfAllocations(Room):
         for name, count in (('given', 3), ('other', 2)):
             lines = f"insert 0\nnp.save('f', np.arange({count}))\n.\nsave 0 f {self.room}/{name}.npy\n"
             self.run_with(lines.encode())
-        counts, fault = try_notebook(script, self.desk, self.shim, MOST if IS_ALL else MOST_OF_WORDS, SEED)
+        counts, fault = try_notebook(script, self.program, self.shim, MOST if IS_ALL else MOST_OF_WORDS, SEED, DESK)
         tell(summary(f'words for front ends, seed {SEED}', 1, counts))
         self.assertIsNone(fault)
         self.assertGreater(min(counts['refused'], counts['answered']), 0)
@@ -82,7 +83,7 @@ class OfFiles(Room):
                 for error in (errno.EIO, errno.EINTR):
                     faults = refusals.Faults(read_bytes=size, failed_read=number, read_error=error)
                     ran = self.run_with(script, faults)
-                    is_end = ran.status == 1 and ran.errors == b'ndnote_desk: the script could not be read\n'
+                    is_end = ran.status == 1 and ran.errors == b'ndnote: the script could not be read\n'
                     self.assertTrue(is_end and (wanted.startswith(ran.output) or told.startswith(ran.output))
                                     or ran.status == 0 and ran.output in (wanted, told), (faults, ran))
                     counts[ran.status, ran.output == told] += 1

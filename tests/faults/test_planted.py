@@ -10,7 +10,7 @@ import unittest
 from pathlib import Path
 from typing import Tuple
 
-from setting import desk, program, shim
+from setting import program, shim
 
 SOURCE = Path(__file__).with_name('planted.c')
 FOLDER = SOURCE.parent
@@ -35,9 +35,9 @@ class Planted(unittest.TestCase):
         self.addCleanup(room.cleanup)
         self.room = Path(room.name)
 
-    def compiled(self, mistake: int, path: str = '') -> str:
+    def compiled(self, mistake: int) -> str:
         library, starter = self.room / f'planted{mistake}.so', self.room / f'starter{mistake}'
-        told = [f'-DMISTAKE={mistake}', f'-DPROGRAM="{path or program()}"', f'-DLIBRARY="{library}"']
+        told = [f'-DMISTAKE={mistake}', f'-DPROGRAM="{program()}"', f'-DLIBRARY="{library}"']
         for path, options in ((library, ['-shared', '-fPIC']), (starter, ['-static', '-DSTARTER'])):
             words = ['cc', '-O2', '-Wall', '-Wextra', '-Werror', *options, *told]
             subprocess.run([*words, '-o', str(path), str(SOURCE), '-ldl'], check=True)
@@ -86,9 +86,8 @@ class Planted(unittest.TestCase):
                    ('test_files_and_long_answers.Closed', '(0, '))
 
     def test_words_for_front_ends(self) -> None:
-        self.check(self.compiled(KEEPS, desk()),
-                   ('test_desk.OfAllocations.test_allocations_of_each_word', 'all questions'))
-        self.check(self.compiled(FORGETS, desk()), ('test_desk.OfFiles.test_every_write', 'No such file'))
+        self.check(self.compiled(KEEPS), ('test_desk.OfAllocations.test_allocations_of_each_word', 'all questions'))
+        self.check(self.compiled(FORGETS), ('test_desk.OfFiles.test_every_write', 'No such file'))
 
     def test_a_header_length_that_is_trusted(self) -> None:
         planted = self.room / 'trusts'

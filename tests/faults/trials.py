@@ -5,7 +5,7 @@ import os
 import random
 from collections import Counter
 from pathlib import Path
-from typing import Dict, Iterator, List, Optional, Tuple
+from typing import Dict, Iterator, List, Optional, Sequence, Tuple
 
 from judging import WANT, Fault, may_want
 from notebook import Notebook
@@ -118,9 +118,10 @@ def try_commands(trials: Trials, most: int, draw: random.Random) -> Iterator[str
         trials.go_on()
 
 
-def try_notebook(path: Path, program: str, shim: str, most: int, seed: int) -> Tuple[Counts, Optional[str]]:
-    """How the trials of a notebook ended, and the first fault."""
-    notebook, steered = Notebook(path, program, shim), Steered(program, shim)
+def try_notebook(path: Path, program: str, shim: str, most: int, seed: int,
+                 words: Sequence[str] = ()) -> Tuple[Counts, Optional[str]]:
+    """How the trials of a notebook ended, and the first fault. The words are those of the command line."""
+    notebook, steered = Notebook(path, program, shim, words), Steered(program, shim, words)
     trials, fault = Trials(notebook, steered), None
     try:
         for end in try_commands(trials, most, random.Random(f'{seed} {path.stem}')):

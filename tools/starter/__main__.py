@@ -1,4 +1,4 @@
-"""What `./ndnote` does not do by itself: finding and making programs, `--version`, `--build` and `check`."""
+"""What `./ndnote` does not do by itself: finding and making the program, `--version`, `--build` and `check`."""
 import sys
 from pathlib import Path
 from typing import List, Optional
@@ -18,7 +18,7 @@ def say(text: str) -> None:
 
 
 def how_to_go_on(top: Path) -> str:
-    """What a person can do where there are no proved programs of the present sources."""
+    """What a person can do where there is no proved program of the present sources."""
     count, lanes, seconds = proved.estimate(top)
     return ('  ./ndnote --preview ..  builds it without any proof, in minutes, and keeps it until a source changes\n'
             f'  ./ndnote --build       proves and builds: {count} crates, {lanes} side by side, '
@@ -33,12 +33,12 @@ def built_sum(top: Path) -> Optional[shipped.Sum]:
         return None
 
 
-def proved_program(top: Path, name: str) -> Path:
-    """The proved program of this name and the present sources: what was built here, else what lies in dist/."""
-    now, built, path = sources.sum_of(top), built_sum(top), top / proved.built(name)
+def proved_program(top: Path) -> Path:
+    """The proved program of the present sources: what was built here, else what lies in dist/."""
+    now, built, path = sources.sum_of(top), built_sum(top), top / proved.BUILT
     if built and built.sources == now and path.is_file():
-        if sources.sum_of_file(path) == built.programs[name]:
-            keep(top, 'proved', name, path, now)
+        if sources.sum_of_file(path) == built.program:
+            keep(top, 'proved', path, now)
             return path
     there = shipped.sum_in(top / shipped.SUM)
     if there is None:
@@ -46,35 +46,35 @@ def proved_program(top: Path, name: str) -> Path:
     if there.sources != now:
         raise preview.NotBuilt(f'what lies here is not yet proved: its sources are not those of {shipped.PACKED}\n'
                                f'{how_to_go_on(top)}')
-    found = shipped.unpack(top, there, name)
+    found = shipped.unpack(top, there)
     if found.is_temporary:
         say(f'{shipped.UNPACKED} cannot be written: the proved program is unpacked for this run alone')
     elif found.is_new:
         say(f'unpacked the proved program of these sources ({there.toolchain})')
     if not found.is_temporary:
-        keep(top, 'proved', name, found.path, now)
+        keep(top, 'proved', found.path, now)
     return found.path
 
 
-def preview_program(top: Path, name: str) -> Path:
+def preview_program(top: Path) -> Path:
     """The program that was built of the present code without proof, or that is built now."""
-    of, path = sources.preview_of(name), top / preview.path_of(name)
-    now, told = sources.sum_of(top, of), top / f'{preview.path_of(name)}.sum'
+    path, told = top / preview.PATH, top / f'{preview.PATH}.sum'
+    now = sources.sum_of(top, sources.PREVIEWED)
     if not path.is_file() or not told.is_file() or told.read_text() != f'{now} {sources.sum_of_file(path)}\n':
         say('building a preview, without any proof: one to two minutes of a free processor')
-        path = preview.build(top, name)
-        if sources.sum_of(top, of) == now:
+        path = preview.build(top)
+        if sources.sum_of(top, sources.PREVIEWED) == now:
             sources.write(told, f'{now} {sources.sum_of_file(path)}\n'.encode())
-    keep(top, 'preview', name, path, now)
+    keep(top, 'preview', path, now)
     return path
 
 
-def keep(top: Path, kind: str, name: str, path: Path, now: str) -> None:
-    """Keeps for `./ndnote` that a program of this kind and name is of the sources of this sum."""
-    of = sources.preview_of(name) if kind == 'preview' else sources.PROVED
+def keep(top: Path, kind: str, path: Path, now: str) -> None:
+    """Keeps for `./ndnote` that a program of this kind is of the sources of this sum."""
+    parts = sources.PREVIEWED if kind == 'preview' else sources.PROVED
     extra = [shipped.SUM, proved.BUILT_SUM] if kind == 'proved' else []
-    kept = sources.Kept(top, top / shipped.UNPACKED / f'{kind}-{name}.kept')
-    kept.keep(path.relative_to(top), of, now, extra)
+    kept = sources.Kept(top, top / shipped.UNPACKED / f'{kind}.kept')
+    kept.keep(path.relative_to(top), parts, now, extra)
 
 
 def version(top: Path) -> int:
@@ -93,8 +93,7 @@ def main(words: List[str]) -> int:
         if verb == '--build':
             proved.build(TOP)
         elif verb == 'program':
-            kind, name = rest
-            print(proved_program(TOP, name) if kind == 'proved' else preview_program(TOP, name))
+            print(proved_program(TOP) if rest == ['proved'] else preview_program(TOP))
         elif verb == 'check':
             return checked.main(Path(rest[0]), rest[1:])
         return 0

@@ -1,4 +1,4 @@
-"""Programs as they are built without any proof, kept until a source changes."""
+"""The program as it is built without any proof, kept until a source changes."""
 import os
 import shutil
 import subprocess
@@ -10,15 +10,11 @@ from typing import Optional
 import sources
 
 LONGEST = 3600.0
+PATH = 'dist/.unpacked/preview-ndnote'
 
 
 class NotBuilt(Exception):
     """No program could be built, and why."""
-
-
-def path_of(program: str) -> str:
-    """Where the preview of a program is kept, relative to the top."""
-    return f'dist/.unpacked/preview-{program}'
 
 
 def program_that_reads(pipe: Path, room: Path) -> Optional[bytes]:
@@ -55,19 +51,19 @@ def reader_of(pipe: Path) -> Optional[int]:
         return None
 
 
-def build(top: Path, name: str) -> Path:
-    """Builds the preview of a program. `rt try` drops it when it has ended, so it is given a script that waits, and
-    is copied while it waits."""
+def build(top: Path) -> Path:
+    """Builds the preview. `rt try` drops it when it has ended, so it is given a script that waits, and is copied while
+    it waits."""
     if not shutil.which('rt'):
         raise NotBuilt('a preview is built by the Rattle toolchain: there is no `rt` on the PATH')
-    path = top / path_of(name)
+    path = top / PATH
     with tempfile.TemporaryDirectory(prefix='ndnote-preview-') as folder, open(f'{folder}/said', 'w+b') as said:
         room = Path(folder).resolve()
         pipe = room / 'script'
         os.mkfifo(pipe)
         words = ['rt', 'try', '--', '--script', str(pipe)]
         began, end, program = time.monotonic(), None, None
-        ran = subprocess.Popen(words, cwd=top / 'crates' / name, stdin=subprocess.DEVNULL, stdout=said,
+        ran = subprocess.Popen(words, cwd=top / 'crates' / sources.PROGRAM, stdin=subprocess.DEVNULL, stdout=said,
                                stderr=said, env={**os.environ, 'TMPDIR': str(room)})
         try:
             while ran.poll() is None and end is None and time.monotonic() < began + LONGEST:
@@ -85,5 +81,5 @@ def build(top: Path, name: str) -> Path:
             said.seek(0)
             raise NotBuilt(said.read().decode(errors='replace').strip() or 'rt try gave no program')
     if not sources.write(path, program, 0o755):
-        raise NotBuilt(f'{path_of(name)} cannot be written')
+        raise NotBuilt(f'{PATH} cannot be written')
     return path

@@ -1,4 +1,4 @@
-"""`./ndnote --build`: proves the crates below the programs, side by side, and builds these."""
+"""`./ndnote --build`: proves the crates below the program, side by side, and builds it."""
 import fcntl
 import hashlib
 import os
@@ -14,15 +14,12 @@ import shipped
 import sources
 from preview import NotBuilt
 
-BUILT_SUM = 'crates/ndnote/out/ndnote.sum'      # of all programs
+# Where the program lies that was proved and built, and its sum, relative to the top.
+BUILT = 'crates/ndnote/out/ndnote'
+BUILT_SUM = 'crates/ndnote/out/ndnote.sum'
 # What a check takes, in seconds of one processor: for a crate, a line of code, a line of definitions and proofs.
 CRATE_SECONDS, CODE_SECONDS, PROOF_SECONDS = 10.0, 0.12, 0.008
 CHECK_BYTES = 2_500_000_000
-
-
-def built(name: str) -> str:
-    """Where a program lies that was proved and built, relative to the top."""
-    return f'crates/{name}/out/{name}'
 
 
 def lines_in(folder: Path, ending: str) -> int:
@@ -88,7 +85,7 @@ def copy_sources(top: Path, room: Path) -> None:
     for folder in sorted((room / 'crates').glob('*')):
         if folder.name not in crates:
             shutil.rmtree(folder)
-    for part in sources.PROVED.parts:
+    for part in sources.PROVED:
         for file in (room / 'crates').glob(f'*/{part}/**/*'):
             if file.is_file() and str(file.relative_to(room)) not in wanted:
                 file.unlink()
@@ -129,7 +126,7 @@ class Progress:
 
 
 def prove_all(room: Path, progress: Progress) -> None:
-    """Proves the crates in the room, side by side, and builds the programs, as the gate does. What `rt ci` has proved
+    """Proves the crates in the room, side by side, and builds the program, as the gate does. What `rt ci` has proved
     on this machine, of the same files, is not proved again."""
     ran = subprocess.Popen(['rt', 'ci'], cwd=room, stdin=subprocess.DEVNULL, stdout=subprocess.PIPE,
                            stderr=subprocess.STDOUT, text=True, errors='replace')
@@ -167,16 +164,15 @@ def lock_of(room: Path) -> IO[bytes]:
     return lock
 
 
-def put(top: Path, programs: Dict[str, bytes], told: shipped.Sum) -> None:
-    """Writes the programs, and their sum behind them."""
-    files = [(built(name), program, 0o755) for name, program in programs.items()]
-    for path, data, mode in [*files, (BUILT_SUM, told.text().encode(), 0o644)]:
+def put(top: Path, program: bytes, told: shipped.Sum) -> None:
+    """Writes the program, and its sum behind it."""
+    for path, data, mode in ((BUILT, program, 0o755), (BUILT_SUM, told.text().encode(), 0o644)):
         if not sources.write(top / path, data, mode):
             raise NotBuilt(f'{path} cannot be written')
 
 
 def build(top: Path) -> None:
-    """Proves and builds the programs of the sources as they are at the start."""
+    """Proves and builds the program of the sources as they are at the start."""
     if not shutil.which('rt'):
         raise NotBuilt('a proof needs the Rattle toolchain: there is no `rt` on the PATH')
     room = room_of(top)
@@ -188,10 +184,10 @@ def build(top: Path) -> None:
         proved, line = sources.sum_of(top), toolchain()
         progress = Progress(top, lanes)
         prove_all(room, progress)
-        programs = {name: (room / built(name)).read_bytes() for name in sources.PROGRAMS}
+        program = (room / BUILT).read_bytes()
         if sources.sum_of(top) != proved:
             raise NotBuilt('a source was changed meanwhile: once more')
-        put(top, programs, shipped.Sum.of(proved, line, programs))
+        put(top, program, shipped.Sum.of(proved, line, program))
         elapsed = time.monotonic() - progress.began
         print(f'ndnote: {count} crates are proved by {line}, {progress.proved} of them now, in {span(elapsed)}',
               file=sys.stderr)

@@ -1,34 +1,23 @@
-"""The sources that programs are built from: which files they are, their sum, and whether they are as they were."""
+"""The sources that the program is built from: which files they are, their sum, and whether they are as they were."""
 import hashlib
 import os
 import shutil
 import subprocess
 import time
 from pathlib import Path
-from typing import Dict, Iterator, List, NamedTuple, Optional, Tuple
+from typing import Dict, Iterator, List, Optional, Tuple
 
-# The program for scripts, and the one for front ends.
-PROGRAMS = ('ndnote', 'ndnote_desk')
+PROGRAM = 'ndnote'
+# The parts of a crate that a proof is of, and those that a preview is of.
+PROVED = ('src', 'specs', 'proofs')
+PREVIEWED = ('src',)
 # A file that changed within this many seconds may change again without another time.
 SETTLED = 2.0
+Parts = Tuple[str, ...]
 
 
 class Unreadable(Exception):
     """The sources cannot be listed or read, and why."""
-
-
-class Of(NamedTuple):
-    """Which sources: those that these programs stand on, and which parts of a crate."""
-    programs: Tuple[str, ...]
-    parts: Tuple[str, ...]
-
-
-# All programs are proved together, and ship together.
-PROVED = Of(PROGRAMS, ('src', 'specs', 'proofs'))
-
-
-def preview_of(program: str) -> Of:
-    return Of((program,), ('src',))
 
 
 def below(top: Path) -> Dict[str, List[str]]:
@@ -45,8 +34,8 @@ def below(top: Path) -> Dict[str, List[str]]:
     return {crate: [other for other in others if other in named] for crate, others in named.items()}
 
 
-def crates(top: Path, of: Of = PROVED) -> List[str]:
-    """The crates that the programs stand on, lowest first, and the programs themselves."""
+def crates(top: Path) -> List[str]:
+    """The crates that the program stands on, lowest first, and the program itself."""
     named, found = below(top), []
 
     def visit(crate: str, path: tuple) -> None:
@@ -57,23 +46,21 @@ def crates(top: Path, of: Of = PROVED) -> List[str]:
         if crate not in found:
             found.append(crate)
 
-    for program in of.programs:
-        if program not in named:
-            raise Unreadable(f'crates.txt: no line for {program}')
-        if program not in found:
-            visit(program, ())
+    if PROGRAM not in named:
+        raise Unreadable(f'crates.txt: no line for {PROGRAM}')
+    visit(PROGRAM, ())
     return found
 
 
-def places(top: Path, of: Of = PROVED) -> List[str]:
+def places(top: Path, parts: Parts = PROVED) -> List[str]:
     """The files and folders that hold the sources, relative to the top."""
-    return ['crates.txt', 'HANDLES', *(f'crates/{crate}/{part}' for crate in crates(top, of) for part in of.parts)]
+    return ['crates.txt', 'HANDLES', *(f'crates/{crate}/{part}' for crate in crates(top) for part in parts)]
 
 
-def files(top: Path, of: Of = PROVED) -> Iterator[str]:
+def files(top: Path, parts: Parts = PROVED) -> Iterator[str]:
     """The sources, relative to the top, in order. What an editor keeps beside a file is none."""
     found = []
-    for place in places(top, of):
+    for place in places(top, parts):
         if (top / place).is_file():
             found.append(place)
         for folder, folders, names in os.walk(top / place):
@@ -94,11 +81,11 @@ def sum_of_file(path: Path) -> str:
     return found.hexdigest()
 
 
-def sum_of(top: Path, of: Of = PROVED) -> str:
+def sum_of(top: Path, parts: Parts = PROVED) -> str:
     """The SHA-256 of what `sha256sum` prints for the sources in order of their paths."""
     whole = hashlib.sha256()
     try:
-        for name in files(top, of):
+        for name in files(top, parts):
             whole.update(f'{sum_of_file(top / name)}  {name}\n'.encode())
     except OSError as error:
         raise Unreadable(str(error)) from error
@@ -120,11 +107,11 @@ class Kept:
         ran = subprocess.run(words, cwd=self.top, stdout=subprocess.PIPE, stderr=subprocess.DEVNULL, check=False)
         return ran.stdout or None
 
-    def keep(self, program: Path, of: Of, sources: str, extra: List[str]) -> bool:
+    def keep(self, program: Path, parts: Parts, sources: str, extra: List[str]) -> bool:
         """Keeps that the program is of the sources of this sum, unless one of them changed meanwhile or just now."""
-        where = [str(program), *extra, *places(self.top, of)]
+        where = [str(program), *extra, *places(self.top, parts)]
         before, began = self.walk(where), time.time()
-        if before is None or sum_of(self.top, of) != sources or self.walk(where) != before:
+        if before is None or sum_of(self.top, parts) != sources or self.walk(where) != before:
             return False
         lines = before.decode(errors='surrogateescape').splitlines()
         changed = [float(line.rsplit(' ', 1)[1]) for line in lines if not line.startswith(f'{program} ')]

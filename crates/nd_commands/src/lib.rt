@@ -1,4 +1,4 @@
-//! Scripts of a notebook: [`run`] carries commands out one by one, and answers each. [`status`] is the
+//! Scripts of a notebook: [`run`] carries commands out one by one, and answers each. [`status_by`] is a
 //! program without its `main`.
 #![tactic(auto)]
 
@@ -18,7 +18,7 @@ pub use carry::set_input;
 pub use fault::push_cell_fault;
 pub use line::answer_line;
 pub use nd_script::lines::{CountedRead, CountedWrite, RunFault, ScriptReader, ScriptWriter};
-pub use program::{Scripting, read_bytes, status, status_by, status_of};
+pub use program::{Scripting, read_bytes, status_by, status_of};
 pub use runner::{room_for_sources, run, run_script, run_turns};
 pub use source::{OpenText, Opening};
 pub use value::{push_layout, push_shown};

@@ -27,20 +27,22 @@ const REFUSED: u8 = 2;
 /// The file of an input could not be read, or the notebook refused it.
 const NO_INPUT: u8 = 3;
 
+/// The name by which the program speaks of itself.
+const NAME: &str = "ndnote";
+
 /// What the program is, as its help says it.
 const ABOUT: &str = "runs a script of a reactive notebook for integer and Boolean arrays";
 
-/// What tells one program of scripts from another: its name, and the words of its scripts.
+/// The languages of a program's scripts: that of [`run`], and one with words for front ends, where the program has it.
 pub trait Scripting {
-    /// Returns the name by which the program speaks of itself.
-    fn name() -> &'static str;
+    /// Returns whether the command line has `--desk`, by which a script has words for front ends, and with it `--progress`, by which each
+    /// run of a cell is told of.
+    fn has_desk() -> bool;
 
-    /// Returns whether the command line has `--progress`, by which each run of a cell is told of.
-    fn has_progress() -> bool;
-
-    /// Runs the script of a reader over a notebook, and writes its answers.
+    /// Runs the script of a reader over a notebook, and writes its answers. It has words for front ends where `is_desk`.
     fn run_script<R: CountedRead, W: CountedWrite>(
         rt: &HostRuntime,
+        is_desk: bool,
         reader: &mut R,
         writer: &mut W,
         meter: &mut Meter,
@@ -48,20 +50,17 @@ pub trait Scripting {
     ) -> Result<(), RunFault>;
 }
 
-/// The program `ndnote`, whose scripts have the commands of [`run`].
+/// The commands of [`run`] alone.
 struct Plain;
 
 impl Scripting for Plain {
-    fn name() -> &'static str {
-        "ndnote"
-    }
-
-    fn has_progress() -> bool {
+    fn has_desk() -> bool {
         false
     }
 
     fn run_script<R: CountedRead, W: CountedWrite>(
         rt: &HostRuntime,
+        _is_desk: bool,
         reader: &mut R,
         writer: &mut W,
         meter: &mut Meter,
@@ -167,12 +166,16 @@ fn words_of(rt: &HostRuntime) -> io::Result<Vec<String>> {
     Ok(words)
 }
 
-/// What a command line asks for: the path of the script, if one is given, the inputs in order, and
-/// whether each run of a cell is told of.
+/// What a command line asks for.
 #[derive(Drop)]
 struct Request<'a> {
+    /// The path of the script, if one is given.
     script: Option<&'a str>,
+    /// The inputs in order.
     inputs: Vec<InputFile<'a>>,
+    /// Whether the script has words for front ends.
+    is_desk: bool,
+    /// Whether each run of a cell is told of.
     has_progress: bool,
 }
 
@@ -188,27 +191,31 @@ fn inputs_of<'a>(alloc: Global, words: &[&'a str]) -> Result<Vec<InputFile<'a>>,
     Ok(inputs)
 }
 
-/// A command with the option `--progress`, where the program has it.
-fn with_progress<'a>(
+/// A command with the options `--desk` and `--progress`, where the program has them.
+fn with_desk<'a>(
     alloc: Global,
     command: Command<'a>,
-    has_progress: bool,
+    has_desk: bool,
 ) -> Result<Command<'a>, AllocError> {
-    if !has_progress {
+    if !has_desk {
         return Ok(command);
     }
+    let desk = Arg::new(alloc, "desk")
+        .long("desk")
+        .help("The script has words for front ends")
+        .action(ArgAction::SetTrue);
     let progress = Arg::new(alloc, "progress")
         .long("progress")
-        .help("Tells of each run of a cell on standard error")
-        .action(ArgAction::SetTrue);
-    command.arg(progress)
+        .help("Tells of each run of a cell on standard error; with --desk")
+        .action(ArgAction::SetTrue)
+        .requires_arg("desk")?;
+    command.arg(desk)?.arg(progress)
 }
 
 /// The words of the command line as its arguments. Whatever they do not take is refused.
 fn matches_of<'a>(
     alloc: Global,
-    name: &'static str,
-    has_progress: bool,
+    has_desk: bool,
     words: &'a [String],
 ) -> Result<ArgMatches<'a>, Error> {
     let script = Arg::new(alloc, "script")
@@ -220,22 +227,21 @@ fn matches_of<'a>(
         .value_name("NAME=PATH")
         .help("An input and its NPY file")
         .action(ArgAction::Append);
-    let command = Command::new(alloc, name)
+    let command = Command::new(alloc, NAME)
         .about(ABOUT)
         .arg(script)?
         .arg(inputs)?;
-    let command = with_progress(alloc, command, has_progress)?;
+    let command = with_desk(alloc, command, has_desk)?;
     command.try_get_matches_from(words)
 }
 
 /// What the words of the command line ask for.
 fn request_of<'a>(
     alloc: Global,
-    name: &'static str,
-    has_progress: bool,
+    has_desk: bool,
     words: &'a [String],
 ) -> Result<Request<'a>, ProgramFault<'a>> {
-    let matches = match matches_of(alloc, name, has_progress, words) {
+    let matches = match matches_of(alloc, has_desk, words) {
         Ok(matches) => matches,
         Err(error) => return Err(ProgramFault::of_command_line(error)),
     };
@@ -243,6 +249,7 @@ fn request_of<'a>(
     Ok(Request {
         script: matches.get_str("script"),
         inputs,
+        is_desk: matches.get_flag("desk"),
         has_progress: matches.get_flag("progress"),
     })
 }
@@ -292,31 +299,32 @@ fn set_inputs<'a>(
 /// Runs the script of a reader; the answers go to standard output.
 fn run_reader<S: Scripting, R: Read + Drop>(
     rt: &HostRuntime,
+    is_desk: bool,
     reader: R,
     meter: &mut Meter,
     notebook: &mut Notebook,
 ) -> Result<(), RunFault> {
     let mut reader = ScriptReader::new(reader);
     let mut writer = ScriptWriter::new(rt.stdout());
-    S::run_script(rt, &mut reader, &mut writer, meter, notebook)
+    S::run_script(rt, is_desk, &mut reader, &mut writer, meter, notebook)
 }
 
-/// Runs the script at the path, or that of standard input. A script that cannot be opened cannot be
-/// read.
-fn run_path<'a, S: Scripting>(
+/// Runs the script that is asked for, or that of standard input. A script that cannot be opened
+/// cannot be read.
+fn run_asked<'a, S: Scripting>(
     rt: &HostRuntime,
-    path: Option<&'a str>,
+    request: &Request<'a>,
     meter: &mut Meter,
     notebook: &mut Notebook,
 ) -> Result<(), ProgramFault<'a>> {
-    let Some(path) = path else {
-        return match run_reader::<S, _>(rt, rt.stdin(), meter, notebook) {
+    let Some(path) = request.script else {
+        return match run_reader::<S, _>(rt, request.is_desk, rt.stdin(), meter, notebook) {
             Ok(()) => Ok(()),
             Err(fault) => Err(ProgramFault::Stopped(fault)),
         };
     };
     let ended = match fs::open(rt, path) {
-        Ok(file) => run_reader::<S, _>(rt, file, meter, notebook),
+        Ok(file) => run_reader::<S, _>(rt, request.is_desk, file, meter, notebook),
         Err(error) => return Err(ProgramFault::UnopenedScript(path, error)),
     };
     match ended {
@@ -337,7 +345,7 @@ fn run_request<'a, S: Scripting>(
         Meter::new(rt)
     };
     set_inputs(rt, &mut meter, notebook, &request.inputs)?;
-    run_path::<S>(rt, request.script, &mut meter, notebook)
+    run_asked::<S>(rt, request, &mut meter, notebook)
 }
 
 /// Runs the script that a command line names, of which the first word is the program, over its
@@ -346,7 +354,7 @@ fn run_command_line<'a, S: Scripting>(
     rt: &HostRuntime,
     words: &'a [String],
 ) -> Result<(), ProgramFault<'a>> {
-    let request = request_of(rt.alloc(), S::name(), S::has_progress(), words)?;
+    let request = request_of(rt.alloc(), S::has_desk(), words)?;
     let mut notebook = Notebook::new(rt.alloc());
     let ended = run_request::<S>(rt, &request, &mut notebook);
     drop(notebook);
@@ -354,13 +362,13 @@ fn run_command_line<'a, S: Scripting>(
 }
 
 /// The exit status of a run, of which a fault is said on standard error.
-fn status_of_run(rt: &HostRuntime, name: &str, ended: Result<(), ProgramFault>) -> ExitCode
+fn status_of_run(rt: &HostRuntime, ended: Result<(), ProgramFault>) -> ExitCode
     ensures { exit_status result ≤ 3 }
 {
     match ended {
         Ok(()) => ExitCode::from(ENDED),
         Err(fault) => {
-            let _ = eprintln!(rt; "{name}: {fault}");
+            let _ = eprintln!(rt; "{NAME}: {fault}");
             ExitCode::from(fault.status())
         }
     }
@@ -378,7 +386,7 @@ fn status_of_run(rt: &HostRuntime, name: &str, ended: Result<(), ProgramFault>) 
 fn status_of_words<S: Scripting>(rt: &HostRuntime, words: &[String]) -> ExitCode
     ensures { exit_status result ≤ 3 }
 {
-    status_of_run(rt, S::name(), run_command_line::<S>(rt, words))
+    status_of_run(rt, run_command_line::<S>(rt, words))
 }
 
 /// Runs a program with the words of its command line, and gives its exit status, as `status_of`
@@ -388,20 +396,13 @@ pub fn status_by<S: Scripting>(rt: &HostRuntime) -> ExitCode
 {
     match words_of(rt) {
         Ok(words) => status_of_words::<S>(rt, &words),
-        Err(error) => status_of_run(rt, S::name(), Err(ProgramFault::of_arguments(&error))),
+        Err(error) => status_of_run(rt, Err(ProgramFault::of_arguments(&error))),
     }
 }
 
-/// Runs `ndnote` with these words, as [`status`] does with those of the command line.
+/// Runs the program without words for front ends with these words, as [`status_by`] does with those of the command line.
 pub fn status_of(rt: &HostRuntime, words: &[String]) -> ExitCode
     ensures { exit_status result ≤ 3 }
 {
     status_of_words::<Plain>(rt, words)
-}
-
-/// Runs `ndnote` with the words of its command line, and gives its exit status.
-pub fn status(rt: &HostRuntime) -> ExitCode
-    ensures { exit_status result ≤ 3 }
-{
-    status_by::<Plain>(rt)
 }

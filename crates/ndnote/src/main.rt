@@ -4,5 +4,5 @@
 use std::process::ExitCode;
 
 fn main(rt: HostRuntime) -> ExitCode {
-    nd_commands::status(&rt)
+    nd_desk::status(&rt)
 }

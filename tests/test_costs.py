@@ -124,14 +124,14 @@ class Costs(unittest.TestCase):
                 self.assertLess(self.in_place(axes, other, 'x += y') - few, each * STATEMENTS + STATEMENTS // 2)
 
     def test_changes_that_have_become_many_are_put_over_few_snapshots(self) -> None:
-        """The 33rd and 34th edit in front of the snapshots: were the 33 changes put over each of them, it would take
+        """The 129th and 130th edit in front of the snapshots: were the 129 changes put over each of them, it would take
         thousands of allocations."""
-        edits = [line for turn in range(34) for line in (f'edit {turn}', f'v{turn} = np.arange(4) + 1', '.')]
-        many, fewer = (self.cost(arrays(LONG), *edits[:3 * turns]) for turns in (34, 32))
+        edits = [line for turn in range(130)
+                 for line in (f'edit {turn % 30}', f'v{turn % 30} = np.arange(4) + {1 + turn // 30}', '.')]
+        many, fewer = (self.cost(arrays(LONG), *edits[:3 * turns]) for turns in (130, 128))
         self.assertLess(many - fewer, 50 * SNAPSHOTS)
 
 
-@unittest.skipUnless(real_program(), 'no program: NDNOTE_PROGRAM, or crates/ndnote/out/ndnote')
 class FarEdits(unittest.TestCase):
     """Processor times, each the least of some turns: edits in front, and then one of a cell far down. Were the snapshots
     dropped, the second would replay all records in front of it."""

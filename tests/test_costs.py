@@ -124,11 +124,11 @@ class Costs(unittest.TestCase):
                 self.assertLess(self.in_place(axes, other, 'x += y') - few, each * STATEMENTS + STATEMENTS // 2)
 
     def test_changes_that_have_become_many_are_put_over_few_snapshots(self) -> None:
-        """The 129th and 130th edit in front of the snapshots: were the 129 changes put over each of them, it would take
+        """The 65th and 66th edit in front of the snapshots: were the 65 changes put over each of them, it would take
         thousands of allocations."""
-        edits = [line for turn in range(130)
+        edits = [line for turn in range(66)
                  for line in (f'edit {turn % 30}', f'v{turn % 30} = np.arange(4) + {1 + turn // 30}', '.')]
-        many, fewer = (self.cost(arrays(LONG), *edits[:3 * turns]) for turns in (130, 128))
+        many, fewer = (self.cost(arrays(LONG), *edits[:3 * turns]) for turns in (66, 64))
         self.assertLess(many - fewer, 50 * SNAPSHOTS)
 
 

@@ -15,3 +15,4 @@ mod Tried
 mod Coming
 mod Drafting
 mod Joining
+mod Carrying

@@ -100,27 +100,3 @@ pub(crate) fn note<C: CellRunner>(
     };
     let _room = noted.push(Noted { place, now, memo });
 }
-
-/// Takes out what is noted of a place, and of the places in front of it, the last of the list being the first.
-pub(crate) fn noted_at<C: CellRunner>(noted: &mut Vec<Noted<C>>, place: usize) -> Option<Noted<C>>
-    ensures noted { (old new : Book)
-        → All (λ n. IsNoted C.change_of C.kept_session old new n.place n.now n.memo) noted.old.items
-        → All (λ n. IsNoted C.change_of C.kept_session old new n.place n.now n.memo)
-        noted.new.items }
-    ensures place { IfSome result (λ n. n.place ≡ place) }
-    ensures found { IfSome result (λ n. (old new : Book)
-        → All (λ n. IsNoted C.change_of C.kept_session old new n.place n.now n.memo) noted.old.items
-        → IsNoted C.change_of C.kept_session old new n.place n.now n.memo) }
-{
-    while let Some(next) = noted.pop() {
-        if next.place == place {
-            return Some(next);
-        }
-        if next.place > place {
-            // never fails, since there is room
-            let _room = noted.push(next);
-            return None;
-        }
-    }
-    None
-}

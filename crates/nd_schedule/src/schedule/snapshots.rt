@@ -1,6 +1,6 @@
 //! `Snapshot`: a session that is kept, with the changes that are still to be put over it.
 
-ghost use Rattle.std.specs.Prelude.{◌≡◌, ◌<◌, ◌≤◌, ◌+◌, ◌-◌, ℕ, IfOk, IfSome, IsTrue, OnOk, length, map, slice_index_or};
+ghost use Rattle.std.specs.Prelude.{◌≡◌, ◌<◌, ◌≤◌, ◌+◌, ◌-◌, ℕ, IfOk, IfSome, IsTrue, OnOk, length, map, slice_index_or, take};
 ghost use Rattle.std.specs.List.{All};
 ghost use Rattle.nd_model.specs.Cells.Footprint.{HasNone, found, with_effects};
 ghost use Rattle.nd_model.specs.Cells.Running.{Key, World};
@@ -16,10 +16,9 @@ ghost use Rattle.nd_schedule.specs.Schedule.Snapshot.{
 };
 ghost use Rattle.nd_schedule.specs.Schedule.Sweep.{IsRun};
 
-use crate::schedule::noting::{Memo, Noted, noted_at};
+use crate::schedule::noting::{Memo, Noted};
 use crate::schedule::runner::CellRunner;
 use std::alloc::{AllocError, Global};
-use std::mem::replace;
 use std::rc::Rc;
 
 /// How many cells lie between two snapshots at least.
@@ -32,7 +31,7 @@ const MOST_SNAPSHOTS: usize = 64;
 const MOST_ASKED: usize = 256;
 
 /// How many changes a snapshot keeps that are not put over it yet.
-const MOST_PENDING: usize = 32;
+const MOST_PENDING: usize = 64;
 
 /// How many cells lie at least between a snapshot over which many changes are put and the one in front of it. Fewer are soon replayed.
 const MOST_REPLAYED: usize = 512;
@@ -325,53 +324,45 @@ pub(crate) fn session_front<C: CellRunner>(
     Ok(session)
 }
 
-/// A snapshot with its pending changes put over it, where that is due.
-fn unburdened<C: CellRunner>(
-    alloc: Global,
-    snapshot: Snapshot<C>,
-    is_due: bool,
-) -> Option<Snapshot<C>>
-    ensures place { IfSome result (λ s. s.place ≡ snapshot.place) }
-    ensures snapshot { IfSome result (λ s. (b : Book)
-        → IsSnapshot b snapshot.place (C.kept_session snapshot.version)
-        (map C.change_of snapshot.pending.items)
-        → IsSnapshot b s.place (C.kept_session s.version) (map C.change_of s.pending.items)) }
+/// Puts the pending changes over a snapshot, where that is due. The answer says whether it stays.
+fn unburden<C: CellRunner>(alloc: Global, snapshot: &mut Snapshot<C>, is_due: bool) -> bool
+    ensures place { snapshot.new.place ≡ snapshot.old.place }
+    ensures snapshot { (b : Book)
+        → IsSnapshot b snapshot.old.place (C.kept_session snapshot.old.version)
+        (map C.change_of snapshot.old.pending.items)
+        → IsSnapshot b snapshot.new.place (C.kept_session snapshot.new.version)
+        (map C.change_of snapshot.new.pending.items) }
 {
     if !is_due {
-        return Some(snapshot);
+        return true;
     }
-    let mut snapshot = snapshot;
-    match refreshed::<C>(alloc, &mut snapshot) {
-        Ok(Some(_session)) => Some(snapshot),
-        _ => None,
+    match refreshed::<C>(alloc, snapshot) {
+        Ok(Some(_session)) => true,
+        _ => false,
     }
 }
 
-/// Adds a change to those that are pending, and brings the snapshot to its place now. A change with nothing in it is not kept.
-fn add_pending<C: CellRunner>(
-    snapshot: Snapshot<C>,
-    now: usize,
-    change: C::Change,
-) -> Option<Snapshot<C>>
-    ensures { IfSome result (λ s. (old new : Book) → AreDistinct (labels_of old.cells)
+/// Adds a change to those that are pending, and brings the snapshot to its place now. A change with nothing in it is not kept. The answer
+/// says whether the snapshot stays.
+fn add_pending<C: CellRunner>(snapshot: &mut Snapshot<C>, now: usize, change: C::Change) -> bool
+    ensures { IsTrue result → (old new : Book) → AreDistinct (labels_of old.cells)
         → AreDistinct (labels_of new.cells)
-        → IsChangeAt old new snapshot.place now (C.change_of change)
-        → IsSnapshot old snapshot.place (C.kept_session snapshot.version)
-        (map C.change_of snapshot.pending.items)
-        → IsSnapshot new s.place (C.kept_session s.version)
-        (map C.change_of s.pending.items)) }
+        → IsChangeAt old new snapshot.old.place now (C.change_of change)
+        → IsSnapshot old snapshot.old.place (C.kept_session snapshot.old.version)
+        (map C.change_of snapshot.old.pending.items)
+        → IsSnapshot new snapshot.new.place (C.kept_session snapshot.new.version)
+        (map C.change_of snapshot.new.pending.items) }
 {
-    let mut grown = snapshot;
     if C::is_empty(&change) {
-        grown.place = now;
-        return Some(grown);
+        snapshot.place = now;
+        return true;
     }
-    match grown.pending.push(change) {
+    match snapshot.pending.push(change) {
         Ok(()) => {
-            grown.place = now;
-            Some(grown)
+            snapshot.place = now;
+            true
         }
-        Err(_refused) => None,
+        Err(_refused) => false,
     }
 }
 
@@ -380,101 +371,61 @@ fn is_soon_replayed<C: CellRunner>(snapshot: &Snapshot<C>, from: usize) -> bool 
     snapshot.cost <= MOST_DROPPED_BYTES && snapshot.place.saturating_sub(from) < MOST_REPLAYED
 }
 
-/// A snapshot behind an edit, with the change that is noted of its place. A change of many bytes is put over it. So are changes that
+/// Adds to a snapshot behind an edit the change that is noted of its place. A change of many bytes is put over it. So are changes that
 /// have become many: no edit has used the snapshot since the first of them. Where its records are soon replayed from the last snapshot in
-/// front, whose place is `from`, it is dropped in place of that.
+/// front, whose place is `from`, it is dropped in place of that. The answer says whether it stays.
 fn put_behind<C: CellRunner>(
     alloc: Global,
-    snapshot: Snapshot<C>,
+    snapshot: &mut Snapshot<C>,
     now: usize,
     change: C::Change,
     from: usize,
-) -> Option<Snapshot<C>>
-    ensures { IfSome result (λ s. (old new : Book) → AreDistinct (labels_of old.cells)
+) -> bool
+    ensures { IsTrue result → (old new : Book) → AreDistinct (labels_of old.cells)
         → AreDistinct (labels_of new.cells)
-        → IsChangeAt old new snapshot.place now (C.change_of change)
-        → IsSnapshot old snapshot.place (C.kept_session snapshot.version)
-        (map C.change_of snapshot.pending.items)
-        → IsSnapshot new s.place (C.kept_session s.version)
-        (map C.change_of s.pending.items)) }
+        → IsChangeAt old new snapshot.old.place now (C.change_of change)
+        → IsSnapshot old snapshot.old.place (C.kept_session snapshot.old.version)
+        (map C.change_of snapshot.old.pending.items)
+        → IsSnapshot new snapshot.new.place (C.kept_session snapshot.new.version)
+        (map C.change_of snapshot.new.pending.items) }
 {
     let is_large = C::change_size(&change) > MOST_PENDING_BYTES;
-    let grown = add_pending::<C>(snapshot, now, change)?;
-    let are_many = grown.pending.len() > MOST_PENDING;
-    if are_many && is_soon_replayed::<C>(&grown, from) {
-        drop(grown);
-        return None;
+    if !add_pending::<C>(snapshot, now, change) {
+        return false;
     }
-    unburdened::<C>(alloc, grown, is_large || are_many)
+    let are_many = snapshot.pending.len() > MOST_PENDING;
+    if are_many && is_soon_replayed::<C>(snapshot, from) {
+        return false;
+    }
+    unburden::<C>(alloc, snapshot, is_large || are_many)
 }
 
-/// A snapshot behind an edit, at its place now: with the change that is noted of it, or made of the session that is noted.
+/// Brings a snapshot behind an edit to its place now: with the change that is noted of it, or made of the session that is noted. The
+/// answer says whether it stays.
 fn bring_along<C: CellRunner>(
     alloc: Global,
-    snapshot: Snapshot<C>,
+    snapshot: &mut Snapshot<C>,
     now: usize,
     memo: Memo<C::Change, C::Version>,
     from: usize,
-) -> Option<Snapshot<C>>
-    ensures { IfSome result (λ s. (old new : Book) → AreDistinct (labels_of old.cells)
+) -> bool
+    ensures { IsTrue result → (old new : Book) → AreDistinct (labels_of old.cells)
         → AreDistinct (labels_of new.cells)
-        → IsNoted C.change_of C.kept_session old new snapshot.place now memo
-        → IsSnapshot old snapshot.place (C.kept_session snapshot.version)
-        (map C.change_of snapshot.pending.items)
-        → IsSnapshot new s.place (C.kept_session s.version)
-        (map C.change_of s.pending.items)) }
+        → IsNoted C.change_of C.kept_session old new snapshot.old.place now memo
+        → IsSnapshot old snapshot.old.place (C.kept_session snapshot.old.version)
+        (map C.change_of snapshot.old.pending.items)
+        → IsSnapshot new snapshot.new.place (C.kept_session snapshot.new.version)
+        (map C.change_of snapshot.new.pending.items) }
 {
     match memo {
         Memo::Change(change) => put_behind::<C>(alloc, snapshot, now, change, from),
-        Memo::Session(version) => Some(Snapshot {
-            place: now,
-            version,
-            pending: Vec::new(alloc),
-            cost: snapshot.cost,
-        }),
+        Memo::Session(made) => {
+            snapshot.place = now;
+            snapshot.version = made;
+            snapshot.pending.clear();
+            true
+        }
     }
-}
-
-/// A snapshot behind an edit: one in front stays, and another gets what is noted of its place. The last one in front of it that stays is
-/// at `from`.
-fn carried<C: CellRunner>(
-    alloc: Global,
-    snapshot: Snapshot<C>,
-    front: usize,
-    from: usize,
-    noted: &mut Vec<Noted<C>>,
-) -> Option<Snapshot<C>>
-    ensures noted { (old new : Book)
-        → All (λ n. IsNoted C.change_of C.kept_session old new n.place n.now n.memo) noted.old.items
-        → All (λ n. IsNoted C.change_of C.kept_session old new n.place n.now n.memo)
-        noted.new.items }
-    ensures snapshot { IfSome result (λ s. (old new : Book) → IsBehind old new front
-        → All (λ n. IsNoted C.change_of C.kept_session old new n.place n.now n.memo) noted.old.items
-        → IsSnapshot old snapshot.place (C.kept_session snapshot.version)
-        (map C.change_of snapshot.pending.items)
-        → IsSnapshot new s.place (C.kept_session s.version)
-        (map C.change_of s.pending.items)) }
-{
-    if snapshot.place <= front {
-        return Some(snapshot);
-    }
-    let next = noted_at::<C>(noted, snapshot.place)?;
-    bring_along::<C>(alloc, snapshot, next.now, next.memo, from)
-}
-
-/// Puts one snapshot more behind the others, if there is one. Where memory is wanting it is dropped.
-fn push_some<C: CellRunner>(snapshots: &mut Vec<Snapshot<C>>, kept: Option<Snapshot<C>>)
-    ensures { (b : Book) → IfSome kept (λ s. IsSnapshot b s.place (C.kept_session s.version)
-        (map C.change_of s.pending.items))
-        → All (λ s. IsSnapshot b s.place (C.kept_session s.version)
-        (map C.change_of s.pending.items)) snapshots.old.items
-        → All (λ s. IsSnapshot b s.place (C.kept_session s.version)
-        (map C.change_of s.pending.items)) snapshots.new.items }
-{
-    let Some(snapshot) = kept else {
-        return;
-    };
-    let _room = snapshots.push(snapshot);
 }
 
 /// Puts a snapshot in front of an edit among the others, in the place of one of the same place. Where memory is wanting it is dropped.
@@ -689,13 +640,77 @@ pub(crate) fn put_fresh<C: CellRunner>(
     thin::<C>(snapshots, front);
 }
 
+/// How many snapshots, from the first on, are not behind a place.
+fn count_front<C: CellRunner>(snapshots: &[Snapshot<C>], front: usize) -> usize
+    ensures within { result ≤ length snapshots.now }
+    ensures front { (k : ℕ) → k < result
+        → slice_index_or (map (λ s. s.place) snapshots.now) k 0 ≤ front }
+{
+    for k in 0..snapshots.len() {
+        if snapshots[k].place > front {
+            return k;
+        }
+    }
+    snapshots.len()
+}
+
+/// The index of the first snapshot, from an index on, that stands at a place.
+fn find_at<C: CellRunner>(snapshots: &[Snapshot<C>], from: usize, place: usize) -> Option<usize>
+    ensures order { IfSome result (λ k. from ≤ k) }
+    ensures within { IfSome result (λ k. k < length snapshots.now) }
+    ensures place { IfSome result
+        (λ k. slice_index_or (map (λ s. s.place) snapshots.now) k 0 ≡ place) }
+{
+    for k in from..snapshots.len() {
+        if snapshots[k].place == place {
+            return Some(k);
+        }
+    }
+    None
+}
+
+/// Brings the snapshots behind an edit to their places now, each as it is noted. Those that are not noted are dropped. Those in front stay
+/// where they lie: `count` tells how many.
+fn carry_noted<C: CellRunner>(
+    alloc: Global,
+    snapshots: &mut Vec<Snapshot<C>>,
+    count: usize,
+    noted: Vec<Noted<C>>,
+)
+    requires { count ≤ length snapshots.old.items }
+    ensures { (old new : Book) → AreDistinct (labels_of old.cells)
+        → AreDistinct (labels_of new.cells)
+        → All (λ n. IsNoted C.change_of C.kept_session old new n.place n.now n.memo) noted.items
+        → All (λ s. IsSnapshot new s.place (C.kept_session s.version)
+        (map C.change_of s.pending.items)) (take count snapshots.old.items)
+        → All (λ s. IsSnapshot old s.place (C.kept_session s.version)
+        (map C.change_of s.pending.items)) snapshots.old.items
+        → All (λ s. IsSnapshot new s.place (C.kept_session s.version)
+        (map C.change_of s.pending.items)) snapshots.new.items }
+{
+    let mut stay = count;
+    let mut next = count;
+    for note in noted {
+        let Some(k) = find_at::<C>(snapshots, next, note.place) else {
+            continue;
+        };
+        let from = last_place::<C>(&snapshots[..stay]);
+        if bring_along::<C>(alloc, &mut snapshots[k], note.now, note.memo, from) {
+            snapshots.swap(stay, k);
+            stay += 1;
+        }
+        next = k + 1;
+    }
+    snapshots.truncate(stay);
+}
+
 /// Brings the snapshots to the notebook behind an edit. Those in front stay, and those that a sweep noted get its change; the others
 /// are dropped. The fresh ones in front come in.
 pub(crate) fn carry<C: CellRunner>(
     alloc: Global,
     snapshots: &mut Vec<Snapshot<C>>,
     fresh: Vec<Snapshot<C>>,
-    mut noted: Vec<Noted<C>>,
+    noted: Vec<Noted<C>>,
     front: usize,
 )
     ensures { (old new : Book) → IsBehind old new front
@@ -707,12 +722,7 @@ pub(crate) fn carry<C: CellRunner>(
         → All (λ s. IsSnapshot new s.place (C.kept_session s.version)
         (map C.change_of s.pending.items)) snapshots.new.items }
 {
-    noted.reverse();
-    let before = replace(snapshots, Vec::new(alloc));
-    for snapshot in before {
-        let from = last_place::<C>(snapshots);
-        let kept = carried::<C>(alloc, snapshot, front, from, &mut noted);
-        push_some::<C>(snapshots, kept);
-    }
+    let count = count_front::<C>(snapshots, front);
+    carry_noted::<C>(alloc, snapshots, count, noted);
     put_fresh::<C>(snapshots, fresh, front);
 }

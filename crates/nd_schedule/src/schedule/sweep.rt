@@ -14,13 +14,14 @@ ghost use Rattle.nd_schedule.specs.Cells.Source.{cells_of};
 ghost use Rattle.nd_schedule.specs.Cells.Shared.{each_of};
 ghost use Rattle.nd_change.specs.Steps.{Comes, Follows, IsWordOf, IsWordOfChange};
 ghost use Rattle.nd_schedule.specs.Schedule.Snapshot.{IsNoted, IsSnapshot};
+ghost use Rattle.nd_schedule.specs.Schedule.Apart.{AreApart};
 ghost use Rattle.nd_schedule.specs.Schedule.Sweep.{AreChanged, AreFit, AreWords, CountsFront, IsAt, IsAtHand, IsFrame, IsPlace, IsRun, change_at, fit_at};
 
 use crate::cells::KeptCell;
 use crate::schedule::noting::{Noted, note};
 use crate::schedule::ran::Shift;
 use crate::schedule::runner::CellRunner;
-use crate::schedule::snapshots::{MOST_KEYS, Snapshot, distance, replay_one, thawed};
+use crate::schedule::snapshots::{MOST_KEYS, Snapshot, replay_one, thawed};
 use nd_meter::Meter;
 use std::alloc::{AllocError, Global};
 use std::rc::Rc;
@@ -341,6 +342,30 @@ fn sweep_between<C: CellRunner>(
     Ok(())
 }
 
+/// The first of some cells that meets the change, by their words, or the end. None is looked at where the change has nothing left.
+fn first_met<C: CellRunner>(
+    words: &[C::Word],
+    from: usize,
+    to: usize,
+    state: &SweepState<C>,
+) -> usize
+    requires order { from ≤ to }
+    requires places { to ≤ length words.now }
+    ensures order { from ≤ result }
+    ensures within { result ≤ to }
+    ensures apart { AreApart C.covers words.now state.now.word from result }
+{
+    if C::is_empty(&state.change) {
+        return from;
+    }
+    for k in from..to {
+        if !C::are_apart(&words[k], &state.word) {
+            return k;
+        }
+    }
+    to
+}
+
 /// Whether one of some cells meets the change, and perhaps does not fit it, so that a session nearer to it is of use. None is looked at
 /// where the change has nothing left, or too much to be put over a session, and where the session at hand is near. No answer depends on it.
 pub(crate) fn may_run<C: CellRunner>(
@@ -367,6 +392,23 @@ pub(crate) fn may_run<C: CellRunner>(
     false
 }
 
+/// The place of the snapshot of this index, if it stands from a place on up to another: else the latter.
+fn place_between<C: CellRunner>(
+    snapshots: &[Snapshot<C>],
+    k: usize,
+    from: usize,
+    to: usize,
+) -> usize
+    requires { from ≤ to }
+    ensures order { from ≤ result }
+    ensures within { result ≤ to }
+{
+    match snapshots.get(k) {
+        Some(snapshot) => snapshot.place.max(from).min(to),
+        None => to,
+    }
+}
+
 /// Whether no snapshot stands behind a place and up to another.
 fn is_last<C: CellRunner>(snapshots: &[Snapshot<C>], place: usize, to: usize) -> bool {
     for snapshot in snapshots {
@@ -377,25 +419,29 @@ fn is_last<C: CellRunner>(snapshots: &[Snapshot<C>], place: usize, to: usize) ->
     true
 }
 
-/// Whether the snapshot at a place is of use as the session at hand: a cell behind it may run, or a session is wanted at the end, and no
-/// snapshot stands nearer to that. No answer depends on it.
+/// Whether the snapshot at a place is of use as the session at hand: a cell up to the next one may run, or a session is wanted at the end,
+/// and no snapshot stands nearer to that. No cell in front of `met` meets the change. No answer depends on it.
 fn is_session_due<C: CellRunner>(
     records: &[Rc<C::Record>],
     words: &[C::Word],
     snapshots: &[Snapshot<C>],
     place: usize,
+    met: usize,
+    next: usize,
     to: usize,
     is_wanted: bool,
     state: &SweepState<C>,
 ) -> bool
-    requires records { to ≤ length records.now }
-    requires places { to ≤ length words.now }
+    requires records { next ≤ length records.now }
+    requires places { next ≤ length words.now }
 {
-    if is_wanted && state.since < place && is_last::<C>(snapshots, place, to) {
+    if state.since >= place {
+        return false;
+    }
+    if is_wanted && is_last::<C>(snapshots, place, to) {
         return true;
     }
-    let next = to.min(place.saturating_add(distance(to)));
-    may_run::<C>(records, words, place, next, state)
+    may_run::<C>(records, words, met, next, state)
 }
 
 /// Takes a snapshot with the change put over it as the session at hand, where that is nearer. Where it cannot be patched, and for want of
@@ -430,8 +476,9 @@ pub(crate) fn take_nearer<C: CellRunner>(
     state.since = snapshot.place;
 }
 
-/// Goes past the cells from a place up to another. Where a snapshot stands, the change there is noted with the place now. Where a session
-/// is wanted behind them, the last snapshot is taken as the session at hand.
+/// Goes past the cells from a place up to another. Where a snapshot stands, the change there is noted with the place now, and the cells up
+/// to the first that meets the change are gone past at once. Where a session is wanted behind them, the last snapshot is taken as the session
+/// at hand.
 pub(crate) fn sweep<C: CellRunner>(
     alloc: Global,
     meter: &mut Meter,
@@ -507,7 +554,8 @@ pub(crate) fn sweep<C: CellRunner>(
         → CountsFront old new j before meter.old → CountsStale old new before meter.new }
 {
     let mut at = i;
-    for snapshot in snapshots {
+    for k in 0..snapshots.len() {
+        let snapshot = &snapshots[k];
         let place = snapshot.place;
         if place < at || to < place {
             continue;
@@ -524,9 +572,13 @@ pub(crate) fn sweep<C: CellRunner>(
             &mut state.session,
             noted,
         );
-        let is_due = is_session_due::<C>(records, words, snapshots, place, to, is_wanted, state);
+        let next = place_between::<C>(snapshots, k + 1, place, to);
+        let met = first_met::<C>(words, place, next, state);
+        let is_due = is_session_due::<C>(
+            records, words, snapshots, place, met, next, to, is_wanted, state,
+        );
         take_nearer::<C>(alloc, snapshot, is_due, state);
-        at = place;
+        at = met;
     }
     sweep_between::<C>(alloc, meter, cells, records, words, world, at, to, state)
 }

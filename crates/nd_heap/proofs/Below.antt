@@ -1,13 +1,13 @@
 -- Old names below newer ones: which of them hold a base.
-use Rattle.std.proofs.Common.{◌≡◌, ℕ, zero, suc, ◌+◌, Bool, true, false, not, ◌||◌, cond, bytes_eq, List, [], ◌∷◌, drop, slice_get, Option, Some, None, is_some, option_map, unwrap_or, Global, add-one, refl, sym, ap, ◌∙◌, inl, inr}
+use Rattle.std.proofs.Common.{◌≡◌, ◌<◌, ◌≤◌, ◌%◌, ℕ, zero, suc, ◌+◌, ◌-◌, Bool, true, false, not, ◌||◌, cond, bytes_eq, List, [], ◌∷◌, length, drop, slice_get, Option, Some, None, is_some, option_map, unwrap_or, Global, add-one, refl, sym, ap, subst, ◌∙◌, inl, inr, arith}
 use Rattle.std.specs.Rc.{rc_str_bytes}
 use Rattle.std.specs.declared.rc.RcStr.{RcStr}
 use Rattle.std.proofs.lemmas.Bool.{cases_Bool, or_parts, or_from, or_right}
 use Rattle.nd_model.specs.Arrays.Value as model
 use Rattle.nd_model.specs.Cells.Session.{Names, lookup, is_held}
-use Rattle.nd_heap.specs.Layers.{overridden}
+use Rattle.nd_heap.specs.Layers.{AreMarked, LieElsewhere, overridden}
 use Rattle.nd_heap.specs.Values.{value_of, names_of}
-use Rattle.nd_heap.proofs.NameLists.{SharedValue}
+use Rattle.nd_heap.proofs.NameLists.{SharedValue, names-get}
 use Rattle.nd_heap.proofs.Plain.{none_some, some_same, false_true}
 
 -- a base is held where the value that is found lies in it
@@ -85,3 +85,26 @@ has_none f (Some x) l t is test none = false_true (sym (ap not none) ∙ sym tes
 pub has_some : {X : Type 0} (f : X → model.Value) (o : Option X) (l : Option model.Value) (t : Bool) → option_map f o ≡ l → is_some o ≡ not t → t ≡ false → is_some l ≡ true
 has_some f None l t is test some = false_true (test ∙ ap not some)
 has_some f (Some x) l t is test some = ap is_some (sym is)
+
+entry : (es : Entries) (i : ℕ) → i < length es → (e : RcStr Global × SharedValue) × (slice_get es i ≡ Some e)
+entry [] i h = absurd (omega (arith, h))
+entry (e ∷ es) zero h = (e, refl)
+entry (e ∷ es) (suc i) h = entry es i (omega (arith, h))
+
+-- nor do names in a row whose marks are others
+free_row : (b : model.Base) (newer : Names) (es : Entries) (ms : List ℕ) (i d : ℕ) → is_held b newer ≡ false → AreMarked (names_of es) ms → LieElsewhere ms (b.label % 4294967296) i (i + d) → i + d ≤ length es
+    → is_held b (overridden newer (names_of (drop (i + d) es))) ≡ false → is_held b (overridden newer (names_of (drop i es))) ≡ false
+free_row b newer es ms i zero free marked row within h = subst (λ j. is_held b (overridden newer (names_of (drop j es))) ≡ false) (omega arith) h
+free_row b newer es ms i (suc d) free marked row within h =
+    let e = entry es (i + d) (omega (arith, within)) in
+    let lies : model.lies_in b (value_of e.0.1.value) ≡ false = row (names_of es) marked (i + d) (omega arith) (omega arith) _ (names-get es (i + d) ∙ ap (option_map (λ (e : RcStr Global × SharedValue). (rc_str_bytes e.0, value_of e.1.value))) e.1) b refl in
+    let next : i + suc d ≡ i + d + 1 = omega arith in
+    free_row b newer es ms i d free marked (λ fs m k low high. row fs m k low (omega (arith, high))) (omega (arith, within))
+    (free_below b newer es (i + d) e.0 e.1 free lies (subst (λ j. is_held b (overridden newer (names_of (drop j es))) ≡ false) next h))
+
+pub free_between : (b : model.Base) (newer : Names) (es : Entries) (ms : List ℕ) (m i j : ℕ) → is_held b newer ≡ false → AreMarked (names_of es) ms → b.label % 4294967296 ≡ m → LieElsewhere ms m i j → i ≤ j → j ≤ length es
+    → is_held b (overridden newer (names_of (drop j es))) ≡ false → is_held b (overridden newer (names_of (drop i es))) ≡ false
+free_between b newer es ms m i j free marked own row order within h =
+    let end : j ≡ i + (j - i) = omega (arith, order) in
+    free_row b newer es ms i (j - i) free marked (subst (λ j. LieElsewhere ms (b.label % 4294967296) i j) end (subst (λ m. LieElsewhere ms m i j) (sym own) row))
+    (omega (arith, order, within)) (subst (λ j. is_held b (overridden newer (names_of (drop j es))) ≡ false) end h)

@@ -1,6 +1,6 @@
 -- Names in layers: old ones, newer values of some of these, and names that were added behind them. Blocks that are there, or gone.
-use Rattle.std.specs.Prelude.{◌≡◌, ◌%◌, ℕ, Bool, true, false, ◌||◌, List, [], ◌∷◌, None, if◌then◌else◌, unwrap_or}
-use Rattle.nd_model.specs.Arrays.Value.{Base, same_base, lies_in}
+use Rattle.std.specs.Prelude.{◌≡◌, ◌<◌, ◌≤◌, ◌%◌, ℕ, Bool, true, false, ◌||◌, List, [], ◌∷◌, None, Some, if◌then◌else◌, slice_get, unwrap_or}
+use Rattle.nd_model.specs.Arrays.Value.{Base, Value, same_base, lies_in}
 use Rattle.nd_model.specs.Cells.Session.{Names, lookup}
 use Rattle.nd_heap.specs.Live.{is_base_among}
 
@@ -19,6 +19,10 @@ abbrev pub AreMarked : Names → List ℕ → Type 0
 AreMarked [] ms = Unit {0}
 AreMarked (e ∷ es) [] = Unit {0}
 AreMarked (e ∷ es) (m ∷ ms) = ((b : Base) → lies_in b e.1 ≡ true → b.label % 4294967296 ≡ m) × AreMarked es ms
+
+-- the values from a place up to another, beside which these marks stand, lie in no base of a mark
+abbrev pub LieElsewhere : List ℕ → ℕ → ℕ → ℕ → Type 0
+LieElsewhere ms m from to = (es : Names) → AreMarked es ms → (k : ℕ) → from ≤ k → k < to → (e : List ℕ × Value) → slice_get es k ≡ Some e → (b : Base) → b.label % 4294967296 ≡ m → lies_in b e.1 ≡ false
 
 -- there is a block of this base
 abbrev pub is_block_among : List (Base × List ℕ) → Base → Bool

@@ -28,7 +28,7 @@ pub type Blocks = IndexMap<Base, Rc<RawBlock>>;
 pub type Bases = IndexMap<Base, ()>;
 
 /// How many bases at most are looked for one by one among the names.
-const FEW: usize = 8;
+const FEW: usize = 64;
 
 /// Returns the bytes of a block, and `[]` where there is no such block.
 pub fn bytes_of(blocks: &Blocks, base: Base) -> &[u8]

@@ -9,7 +9,7 @@ use std::rc::Rc;
 /// How many entries the newer layers of a table have at most when a cell begins, by how many its old one has: more are put among the old
 /// ones, which copies all.
 pub(crate) fn most_newer(old: usize) -> usize {
-    (old / 64).clamp(32, 256)
+    (old / 16).clamp(32, 256)
 }
 
 /// One layer of a table: its own, which takes no memory while empty, or one that versions share.

@@ -1,10 +1,10 @@
 //! `Names`: one layer of names in order with their values, which versions share.
 
-ghost use Rattle.std.specs.Prelude.{◌≡◌, ◌↔◌, ◌%◌, ℕ, IfOk, IsFalse, IsTrue, List, OnErr, OnOk, Some, false, option_map, slice_get};
+ghost use Rattle.std.specs.Prelude.{◌≡◌, ◌≤◌, ◌↔◌, ◌%◌, IfOk, IsFalse, IsTrue, OnErr, OnOk, false, length, option_map};
 ghost use Rattle.std.specs.Rc.{rc_str_bytes};
 ghost use Rattle.nd_model.specs.Cells.Session as model;
 ghost use Rattle.nd_model.specs.Arrays.Value as values;
-ghost use Rattle.nd_heap.specs.Layers.{AreMarked, overridden};
+ghost use Rattle.nd_heap.specs.Layers.{AreMarked, LieElsewhere, overridden};
 ghost use Rattle.nd_heap.specs.Sharing.{held_in};
 ghost use Rattle.nd_heap.specs.Values.{base_of, value_of, names_of};
 
@@ -17,6 +17,9 @@ use std::rc::{Rc, RcStr};
 
 /// A copy of the names shares each name's text and its value.
 pub(crate) type Names = IndexMap<RcStr, Rc<Value>>;
+
+/// How many marks are tested at once.
+const ROW: usize = 64;
 
 /// Binds a name: one that is bound keeps its place, another goes last.
 pub(crate) fn insert(names: &mut Names, name: RcStr, value: Rc<Value>) -> Result<(), OutOfMemory>
@@ -121,16 +124,50 @@ pub(crate) fn marks_of(alloc: Global, names: &Names) -> Result<Vec<u32>, OutOfMe
     Ok(marks)
 }
 
-/// Whether the value at a place lies in no base of the mark, by its own mark.
-fn is_apart(marks: &[u32], place: usize, mark: u32) -> bool
-    ensures { IsTrue result → (names : model.Names) → AreMarked names marks.now
-        → (n : List ℕ) (v : values.Value) → slice_get names place ≡ Some (n, v)
-        → (b : values.Base) → b.label % 4294967296 ≡ mark → values.lies_in b v ≡ false }
+/// Whether one of the marks from a place up to another is this one. All are read: to stop at the first takes longer.
+fn has_mark(marks: &[u32], from: usize, to: usize, mark: u32) -> bool
+    requires { to ≤ length marks.now }
+    ensures { IsFalse result → LieElsewhere marks.now mark from to }
 {
-    match marks.get(place) {
-        Some(own) => *own != mark,
-        None => false,
+    let mut is_there = false;
+    for i in from..to {
+        is_there |= marks[i] == mark;
     }
+    is_there
+}
+
+/// Goes back from a place over rows of marks without this one, and tells how far.
+fn skip_rows(marks: &[u32], end: usize, mark: u32) -> usize
+    requires { end ≤ length marks.now }
+    ensures within { result ≤ end }
+    ensures elsewhere { LieElsewhere marks.now mark result end }
+{
+    let mut start = end;
+    for _ in 0..end / ROW {
+        if start < ROW || has_mark(marks, start - ROW, start, mark) {
+            return start;
+        }
+        start -= ROW;
+    }
+    start
+}
+
+/// The place behind the last value in front of `end` that may lie in a base of this mark, 0 where there is none. Of a value without a mark
+/// nothing is known.
+fn behind_last(marks: &[u32], end: usize, mark: u32) -> usize
+    ensures within { result ≤ end }
+    ensures elsewhere { LieElsewhere marks.now mark result end }
+{
+    if end > marks.len() {
+        return end;
+    }
+    let start = skip_rows(marks, end, mark);
+    for i in (0..start).rev() {
+        if marks[i] == mark {
+            return i + 1;
+        }
+    }
+    0
 }
 
 /// Whether the value lies in the base.
@@ -167,18 +204,21 @@ pub(crate) fn is_held_below(older: &Names, newer: &Names, marks: &[u32], base: B
         (overridden (names_of newer.now.entries) (names_of older.now.entries)) }
 {
     let mark = mark_of(base.label);
-    for i in (0..older.len()).rev() {
-        let Some((name, value)) = older.get_index(i) else {
+    let mut behind = older.len();
+    for _ in 0..older.len() {
+        behind = behind_last(marks, behind, mark);
+        if behind == 0 {
+            return false;
+        }
+        let Some((name, value)) = older.get_index(behind - 1) else {
             unreachable!();
         };
-        if is_apart(marks, i, mark) {
-            continue;
-        }
         if lies_in(value.as_ref(), base) {
             if find(newer, name.as_str()).is_none() {
                 return true;
             }
         }
+        behind -= 1;
     }
     false
 }

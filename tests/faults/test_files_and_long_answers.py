@@ -18,6 +18,7 @@ from test_reads_and_writes import CAUSES, READ_ERRORS, SIZES, WRITE_ERRORS
 SCRIPT = b"insert 0\nx = np.load('f')\nprint(x)\n.\nshow 0\nvalue 0 x\nsource 0\n"
 LONG = b'insert 0\nx = np.arange(20000)\nprint(x)\n.\nshow 0\nvalue 0 x\nsource 0\n'
 LITTLE = 4_093                  # bytes of a write that cuts long answers at odd places
+BUFFER = 8_192                  # bytes of answers that are written at once
 
 
 class OfFiles(unittest.TestCase):
@@ -99,6 +100,13 @@ class OfLongAnswers(unittest.TestCase):
             self.assertEqual(len(set(lengths)), count)
             runs += len(lengths)
         tell(f'every write of long answers: {len(whole.output)} bytes, {runs} runs')
+
+    def test_answers_as_long_as_the_buffer(self) -> None:
+        """`ok`, the line with the length and the end of the source are 14 bytes."""
+        for length in (BUFFER - 15, BUFFER - 14, BUFFER - 13, 20_000):
+            text = b'x' * length
+            ran = refusals.run([program()], b'insert 0\n' + text + b'\n.\nsource 0\n', shim())
+            self.assertEqual((ran.status, ran.output), (0, b'ok\nsource %d\n%s\n' % (length, text)), length)
 
 
 class Closed(unittest.TestCase):

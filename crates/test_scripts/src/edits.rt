@@ -43,7 +43,7 @@ fn edit_of<'a>(line: &'a str, input: &'a Input) -> Option<Edit<'a>> {
 }
 
 /// The lines, with what their escapes stand for.
-pub(crate) fn unescape_lines(alloc: Global, lines: &str) -> io::Result<Vec<String>> {
+fn unescape_lines(alloc: Global, lines: &str) -> io::Result<Vec<String>> {
     let mut texts = Vec::new(alloc);
     for line in lines.lines() {
         match unescape(alloc, line) {
@@ -63,7 +63,7 @@ fn input_of(alloc: Global, line: &str) -> io::Result<Input> {
 }
 
 /// For each line the input that it sets.
-pub(crate) fn inputs_of(alloc: Global, lines: &[String]) -> io::Result<Vec<Input>> {
+fn inputs_of(alloc: Global, lines: &[String]) -> io::Result<Vec<Input>> {
     let mut inputs = Vec::new(alloc);
     for line in lines {
         inputs.push(input_of(alloc, line.as_str())?)?;
@@ -72,7 +72,7 @@ pub(crate) fn inputs_of(alloc: Global, lines: &[String]) -> io::Result<Vec<Input
 }
 
 /// The edits that the lines say, over the input of each line.
-pub(crate) fn edits_of<'a>(
+fn edits_of<'a>(
     alloc: Global,
     lines: &'a [String],
     inputs: &'a [Input],
@@ -88,7 +88,7 @@ pub(crate) fn edits_of<'a>(
 }
 
 /// Prints what each cell of a notebook printed.
-pub(crate) fn print_texts(rt: &HostRuntime, notebook: &Notebook) -> io::Result<()> {
+fn print_texts(rt: &HostRuntime, notebook: &Notebook) -> io::Result<()> {
     for at in 0..notebook.count() {
         if let Ok(result) = notebook.result(at) {
             println!(rt; "{at} {:?}", result.text)?;

@@ -2,11 +2,12 @@
 from __future__ import annotations
 
 import os
+import statistics
 import sys
 import tempfile
 import unittest
 from pathlib import Path
-from typing import Optional
+from typing import Callable, Optional
 
 TOP = Path(__file__).resolve().parents[1]
 sys.path.insert(0, str(TOP / 'tools'))
@@ -177,6 +178,46 @@ class FarMoves(unittest.TestCase):
             down.append(program.move(1, last)[0])
         self.assertLess(min(up), whole / 100)
         self.assertLess(min(down), whole / 100)
+
+
+@unittest.skipUnless(real_program(), 'no program: NDNOTE_PROGRAM, or crates/ndnote/out/ndnote')
+class ManyNames(unittest.TestCase):
+    """Processor times, each the median of some turns, in a notebook of the most cells, each of which binds a name. Were a
+    list of all names made for an edit, it would take a hundredth of inserting all."""
+
+    CELLS, TURNS = 10_000, 41
+
+    def setUp(self) -> None:
+        self.program = Program(real_program())
+        self.addCleanup(self.program.close)
+        self.whole = self.program.load(arrays(self.CELLS))
+
+    def median(self, edit: Callable[[int], float]) -> float:
+        """An edit's time by that of inserting all."""
+        return statistics.median(edit(turn) for turn in range(self.TURNS)) / self.whole
+
+    def test_another_value_all_over(self) -> None:
+        def change(turn: int) -> float:
+            at = 1_000 + (turn * 6_007 + 13) % (self.CELLS - 1_000)
+            return self.program.edit(at, f'v{at} = np.arange(4) + {turn + 1}')[0]
+
+        self.assertLess(self.median(change), 1 / 300)
+
+    def test_a_cell_that_nobody_reads_goes_and_comes(self) -> None:
+        half, goes, comes = self.CELLS // 2, [], []
+        for _turn in range(self.TURNS):
+            goes.append(self.program.remove(half)[0])
+            comes.append(self.program.insert(half, f'v{half} = np.arange(4)')[0])
+        self.assertLess(statistics.median(goes), self.whole / 300)
+        self.assertLess(statistics.median(comes), self.whole / 300)
+
+    def test_a_cell_that_nobody_reads_moves_far(self) -> None:
+        last, up, down = self.CELLS - 1, [], []
+        for _turn in range(self.TURNS):
+            up.append(self.program.move(last, 1)[0])
+            down.append(self.program.move(1, last)[0])
+        self.assertLess(statistics.median(up), self.whole / 300)
+        self.assertLess(statistics.median(down), self.whole / 300)
 
 
 @unittest.skipUnless(real_program(), 'no program: NDNOTE_PROGRAM, or crates/ndnote/out/ndnote')

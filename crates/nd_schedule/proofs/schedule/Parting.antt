@@ -6,7 +6,7 @@ use Rattle.nd_model.specs.Book.Records.{Record}
 use Rattle.nd_model.specs.Book.Book.{Book, Cell}
 use Rattle.nd_change.specs.Change.{Change}
 use Rattle.nd_schedule.specs.Schedule.Snapshot.{IsChangeAt}
-use Rattle.nd_schedule.specs.Schedule.Sweep.{CountsFront, IsAt, IsFrame, IsPlace}
+use Rattle.nd_schedule.specs.Schedule.Sweep.{CountsFront, IsAt, IsFrame}
 use Rattle.nd_schedule.proofs.schedule.Visiting.{both_parts, frame_part}
 
 pub itself : (n : ℕ) → n ≤ n
@@ -24,6 +24,3 @@ module _ (old new : Book) (i j to : ℕ) (cs : List Cell) (rs : List Record) (gi
 
   pub noted_part : (c : Change) (s : Session) (since : ℕ) → IsAt old new n (j + (n - i)) c s since → IsChangeAt old new n (j + (n - i)) c
   noted_part c s since at = record { within = omega (arith, frame.beside.fits); over = at.over }
-
-  pub place_part : IsPlace old new n (j + (n - i))
-  place_part = record { before = omega (arith, frame.beside.within); now = omega (arith, frame.beside.fits); distinct = frame.beside.distinct }

@@ -1,5 +1,5 @@
 -- A sweep whose change meets none of some cells: it goes past all of them.
-use Rattle.std.proofs.Common.{◌≡◌, ℕ, zero, suc, ◌+◌, ◌-◌, ◌<◌, ◌≤◌, Bool, List, length, get_or, None, ap, subst, ◌∙◌, arith, inr}
+use Rattle.std.proofs.Common.{◌≡◌, ℕ, zero, suc, ◌+◌, ◌-◌, ◌<◌, ◌≤◌, Bool, List, length, get_or, None, ◌⊎◌, inl, inr, ap, subst, ◌∙◌, arith}
 use Rattle.std.proofs.lemmas.List.{length-map}
 use Rattle.nd_model.specs.Cells.Session.{Session, no_session}
 use Rattle.nd_model.specs.Cells.Running.{Key, World}
@@ -19,8 +19,11 @@ use Rattle.nd_schedule.proofs.schedule.Visiting.{apart_at, apart_holds, frame_at
 abbrev pub MeetsNone : Book → Change → (from to : ℕ) → Type 0
 MeetsNone old c from to = (k : ℕ) → from ≤ k → k < to → IsDisjoint c (record_at old.world (entry_at old k))
 
-pub meets_none : {W : Type 0} (covers : W → Key → Bool) (old : Book) (rs : List Record) (ws : List W) (v : W) (c : Change) (from to : ℕ) → IsRun old rs → AreWords covers ws rs → IsWordOfChange covers v c → to ≤ length old.cells → AreApart covers ws v from to → MeetsNone old c from to
-meets_none covers old rs ws v c from to run words over within apart k le less =
+-- it has nothing in it, or their words are apart from its word
+pub meets_none : {W : Type 0} (covers : W → Key → Bool) (old : Book) (rs : List Record) (ws : List W) (v : W) (c : Change) (from to : ℕ) → IsRun old rs → AreWords covers ws rs → IsWordOfChange covers v c → to ≤ length old.cells
+    → ((key : Key) → c key ≡ None) ⊎ AreApart covers ws v from to → MeetsNone old c from to
+meets_none covers old rs ws v c from to run words over within (inl none) k le less = record { reads = λ key read. none key; does = λ key. inr (none key) }
+meets_none covers old rs ws v c from to run words over within (inr apart) k le less =
     let was : Record = record_at old.world (entry_at old k) in
     let long : length rs ≡ length old.cells = ap length run.records ∙ length-map (entries_of old) (record_at old.world) ∙ length-entries old.cells old.world no_session in
     let is : get_or rs k was ≡ was = ap (λ xs. get_or xs k was) run.records ∙ get_or-records_of old k was (omega arith) in
@@ -83,18 +86,3 @@ module _ (old new : Book) (i j to : ℕ) (cs : List Cell) (rs : List Record) (gi
   skips_changed k n from first ds le order within apart behind is at all =
       let e : k + (n - k) ≡ n = omega arith in
       subst (λ m. AreChanged old new from first m ds) e (past_changed k (n - k) from first ds (λ m behind less. apart m behind (omega arith)) le (omega arith) behind is at all)
-
-  -- where nothing is left of the change, up to the end
-  module _ (none : (k : Key) → c k ≡ None) where
-    free : (from to : ℕ) → MeetsNone old c from to
-    free from to k le less = record { reads = λ key read. none key; does = λ key. inr (none key) }
-
-    pub ends_at : (k : ℕ) → i ≤ k → k ≤ to → IsAt old new k (j + (k - i)) c s since → IsAt old new to (j + (to - i)) c s since
-    ends_at k le within at = skips_at k to le within (omega arith) (free k to) at
-
-    pub ends_counts : (k before after : ℕ) → i ≤ k → k ≤ to → IsAt old new k (j + (k - i)) c s since → CountsFront old new (j + (k - i)) before after → CountsFront old new (j + (to - i)) before after
-    ends_counts k before after le within at h = skips_counts k to before after le within (omega arith) (free k to) at h
-
-    pub ends_changed : (k from first : ℕ) (ds : Changes) → i ≤ k → k ≤ to → from ≤ i → j ≡ first + (i - from) → IsAt old new k (j + (k - i)) c s since
-        → AreChanged old new from first k ds → AreChanged old new from first to ds
-    ends_changed k from first ds le within behind is at all = skips_changed k to from first ds le within (omega arith) (free k to) behind is at all

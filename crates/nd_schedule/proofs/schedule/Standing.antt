@@ -25,7 +25,7 @@ use Rattle.nd_change.proofs.Snapshots.{nothing_left, over_alike}
 use Rattle.nd_schedule.specs.Schedule.Snapshot.{IsBehind, IsChangeAt, IsNoted, IsSnapshot, Leads, StandsBefore, names_in}
 use Rattle.nd_schedule.specs.declared.schedule.noting.Memo.{Memo}
 use Rattle.nd_schedule.specs.declared.schedule.noting.Memo.TheVariants as memo
-use Rattle.nd_schedule.specs.Schedule.Sweep.{IsAt, IsPlace, IsRun}
+use Rattle.nd_schedule.specs.Schedule.Sweep.{IsAt, IsAtHand, IsPlace, IsRun}
 use Rattle.nd_schedule.proofs.schedule.Sweeping.{alike_self, leaves_next, next_alike}
 
 -- ---- changes that lead from one session to another
@@ -222,18 +222,15 @@ kept_by_records a b rs run run' place s ds h =
 
 -- ---- a snapshot as the session at hand
 
-pub taken : (old new : Book) (place j : ℕ) (d : Change) (h s u : Session) (since upto : ℕ) → IsPlace old new place j → IsAt old new place j d s since → StandsBefore old place h → IsPutOver d h u → IsOnce u.names → upto ≡ place → IsAt old new place j d u upto
-taken old new place j d h s u since upto there at stands put once is =
+pub taken : (old new : Book) (place j : ℕ) (d : Change) (h u : Session) → IsPlace old new place j → IsChangeAt old new place j d → StandsBefore old place h → IsPutOver d h u → IsOnce u.names → IsAtHand old new place j u place
+taken old new place j d h u there at stands put once =
     let t : Session = session_before new j in
     let over : IsOver d h old.world t new.world = over_alike d (session_before old place) t h t old.world new.world at.over stands.alike (alike_self t t refl) in
     let alike : IsAlike u t = put t old.world new.world over (names_stand_once new j there.distinct there.now) in
-    subst (IsAt old new place j d u) (sym is) (record {
-      over = at.over;
-      hand = record {
-        behind = omega arith;
-        enough = omega arith;
-        session = let e : j ≡ j - (place - place) = omega arith in subst (λ n. IsAlike u (session_before new n)) e alike;
-        once = once;
-        kept = λ n less. absurd (omega arith);
-      };
-    })
+    record {
+      behind = omega arith;
+      enough = omega arith;
+      session = let e : j ≡ j - (place - place) = omega arith in subst (λ n. IsAlike u (session_before new n)) e alike;
+      once = once;
+      kept = λ n less. absurd (omega arith);
+    }

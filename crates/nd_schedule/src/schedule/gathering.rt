@@ -94,24 +94,11 @@ fn merge_from<C: CellRunner>(
     for j in from..drafted.len() {
         let (cell, hint) = (&drafted[j], hints[j]);
         let placed = merge_cell::<C>(
-            alloc, meter, cells, records, words, cell, hint, world, i, j, state,
+            alloc, meter, cells, records, snapshots, words, cell, hint, world, i, j, state,
         )?;
         i = placed.behind;
         put_behind::<C>(merged, placed, j)?;
-        next = stop_at::<C>(
-            alloc,
-            cells,
-            records,
-            words,
-            drafted,
-            hints,
-            snapshots,
-            next,
-            i,
-            j + 1,
-            state,
-            noted,
-        );
+        next = stop_at::<C>(records, snapshots, next, i, j + 1, state, noted);
     }
     Ok(())
 }

@@ -104,37 +104,6 @@ fn are_same(one: &KeptCell, other: &KeptCell) -> bool
     one.label == other.label && have_same_text(one, other)
 }
 
-/// Whether a hint names this place, and no edit of the draft has moved the cell.
-fn is_unmoved_at(hint: Hint, place: usize) -> bool {
-    match hint {
-        Hint::At(at) => at == place,
-        Hint::Moved(_place) => false,
-        Hint::New => false,
-    }
-}
-
-/// Whether some cells of a draft are those of the notebook from a place on, none of them moved. No answer depends on it.
-pub(crate) fn are_unchanged(
-    cells: &[Rc<KeptCell>],
-    drafted: &[Rc<KeptCell>],
-    hints: &[Hint],
-    i: usize,
-    now: usize,
-    count: usize,
-) -> bool
-    requires cells { i + count ≤ length cells.now }
-    requires drafted { now + count ≤ length drafted.now }
-    requires hints { length hints.now ≡ length drafted.now }
-{
-    for k in 0..count {
-        let (cell, hint) = (&drafted[now + k], hints[now + k]);
-        if !is_unmoved_at(hint, i + k) || !are_same(&cells[i + k], cell) {
-            return false;
-        }
-    }
-    true
-}
-
 /// The first place where a draft has another cell, or where the shorter of the two ends.
 pub(crate) fn first_other(cells: &[Rc<KeptCell>], drafted: &[Rc<KeptCell>]) -> usize
     ensures within { result ≤ length cells.now }

@@ -1,6 +1,7 @@
 //! `merge_cell`: carries a change over the cells of a notebook up to one of a draft, and puts that one in its place.
 
-ghost use Rattle.std.specs.Prelude.{◌≡◌, ◌<◌, ◌≤◌, ◌+◌, ℕ, IfOk, IfSome, MatchOption, OnOk, length};
+ghost use Rattle.std.specs.Prelude.{◌≡◌, ◌<◌, ◌≤◌, ◌+◌, ℕ, IfOk, IfSome, MatchOption, OnOk, length, map};
+ghost use Rattle.std.specs.List.{All};
 ghost use Rattle.nd_model.specs.Book.Book.{Book};
 ghost use Rattle.nd_model.specs.Book.Entries.{entry_at, record_at};
 ghost use Rattle.nd_model.specs.Book.Stale.{IsStale};
@@ -9,6 +10,7 @@ ghost use Rattle.nd_change.specs.Steps.{IsWordOf, IsWordOfChange};
 ghost use Rattle.nd_schedule.specs.Cells.Source.{cell_of, cells_of};
 ghost use Rattle.nd_schedule.specs.Cells.Shared.{each_of};
 ghost use Rattle.nd_schedule.specs.Schedule.Merge.{AreMerged, IsFront, IsNext, IsPlaced};
+ghost use Rattle.nd_schedule.specs.Schedule.Snapshot.{IsSnapshot};
 ghost use Rattle.nd_schedule.specs.Schedule.Sweep.{AreWords, CountsFront, IsAt, IsPlace, IsRun};
 
 use crate::cells::KeptCell;
@@ -16,7 +18,8 @@ use crate::schedule::draft::Hint;
 use crate::schedule::matching::{Way, find_way};
 use crate::schedule::moving::{enter, leave};
 use crate::schedule::runner::CellRunner;
-use crate::schedule::sweep::{New, SweepState, catch_up, run_cell, run_new};
+use crate::schedule::snapshots::Snapshot;
+use crate::schedule::sweep::{New, SweepState, come_to, run_cell, run_new};
 use nd_meter::Meter;
 use std::alloc::{AllocError, Global};
 use std::rc::Rc;
@@ -40,7 +43,9 @@ pub(crate) struct Merged<C: CellRunner> {
 
 /// Leaves the cells from a place up to another, which are gone or come in later.
 fn leave_between<C: CellRunner>(
+    alloc: Global,
     records: &[Rc<C::Record>],
+    snapshots: &[Snapshot<C>],
     i: usize,
     to: usize,
     state: &mut SweepState<C>,
@@ -52,6 +57,9 @@ fn leave_between<C: CellRunner>(
         × IsAt old new i j (C.change_of state.old.change) (C.session_of state.old.session)
         state.old.since }
     requires covered { IsWordOfChange C.covers state.old.word (C.change_of state.old.change) }
+    requires kept { (b : Book) → IsRun b (each_of C.recorded records.now)
+        → All (λ s. IsSnapshot b s.place (C.kept_session s.version)
+        (map C.change_of s.pending.items)) snapshots.now }
     ensures at { OnOk result ((old new : Book) (j : ℕ)
         → IsRun old (each_of C.recorded records.now) → IsPlace old new i j
         → IsAt old new i j (C.change_of state.old.change) (C.session_of state.old.session)
@@ -62,7 +70,7 @@ fn leave_between<C: CellRunner>(
         (C.change_of state.new.change)) }
 {
     for k in i..to {
-        leave::<C>(records, k, state)?;
+        leave::<C>(alloc, records, snapshots, k, state)?;
     }
     Ok(())
 }
@@ -72,6 +80,7 @@ fn run_there<C: CellRunner>(
     alloc: Global,
     meter: &mut Meter,
     records: &[Rc<C::Record>],
+    snapshots: &[Snapshot<C>],
     source: &KeptCell,
     world: &C::World,
     i: usize,
@@ -84,6 +93,9 @@ fn run_there<C: CellRunner>(
         (world_in (C.given world.now))
         × IsAt old new i now (C.change_of state.old.change) (C.session_of state.old.session)
         state.old.since }
+    requires kept { (b : Book) → IsRun b (each_of C.recorded records.now)
+        → All (λ s. IsSnapshot b s.place (C.kept_session s.version)
+        (map C.change_of s.pending.items)) snapshots.now }
     ensures at { OnOk result ((old new : Book)
         → IsNext old new i now (each_of C.recorded records.now) (cell_of source.now)
         (world_in (C.given world.now))
@@ -107,7 +119,7 @@ fn run_there<C: CellRunner>(
         → CountsFront old new now before meter.old
         → CountsFront old new (now + 1) before meter.new }
 {
-    catch_up::<C>(records, &mut state.session, state.since, i)?;
+    come_to::<C>(alloc, records, snapshots, i, state)?;
     let new = run_cell::<C>(alloc, meter, source, world, now, &mut state.session)?;
     C::rerun(
         &records[i],
@@ -126,6 +138,7 @@ fn pass<C: CellRunner>(
     alloc: Global,
     meter: &mut Meter,
     records: &[Rc<C::Record>],
+    snapshots: &[Snapshot<C>],
     words: &[C::Word],
     source: &KeptCell,
     world: &C::World,
@@ -142,6 +155,9 @@ fn pass<C: CellRunner>(
         state.old.since }
     requires words { AreWords C.covers words.now (each_of C.recorded records.now) }
     requires covered { IsWordOfChange C.covers state.old.word (C.change_of state.old.change) }
+    requires kept { (b : Book) → IsRun b (each_of C.recorded records.now)
+        → All (λ s. IsSnapshot b s.place (C.kept_session s.version)
+        (map C.change_of s.pending.items)) snapshots.now }
     ensures at { OnOk result ((old new : Book)
         → IsNext old new i now (each_of C.recorded records.now) (cell_of source.now)
         (world_in (C.given world.now)) → (entry_at old i).cell ≡ cell_of source.now
@@ -185,7 +201,9 @@ fn pass<C: CellRunner>(
         state.word = C::change_word(&state.change);
         return Ok(None);
     }
-    let new = run_there::<C>(alloc, meter, records, source, world, i, now, state)?;
+    let new = run_there::<C>(
+        alloc, meter, records, snapshots, source, world, i, now, state,
+    )?;
     Ok(Some(new))
 }
 
@@ -232,6 +250,7 @@ fn come_to_kept<C: CellRunner>(
     alloc: Global,
     meter: &mut Meter,
     records: &[Rc<C::Record>],
+    snapshots: &[Snapshot<C>],
     words: &[C::Word],
     source: &KeptCell,
     world: &C::World,
@@ -250,6 +269,9 @@ fn come_to_kept<C: CellRunner>(
         state.old.since }
     requires words { AreWords C.covers words.now (each_of C.recorded records.now) }
     requires covered { IsWordOfChange C.covers state.old.word (C.change_of state.old.change) }
+    requires kept { (b : Book) → IsRun b (each_of C.recorded records.now)
+        → All (λ s. IsSnapshot b s.place (C.kept_session s.version)
+        (map C.change_of s.pending.items)) snapshots.now }
     ensures at { IfOk result (λ p. (old new : Book)
         → IsNext old new i now (each_of C.recorded records.now) (cell_of source.now)
         (world_in (C.given world.now)) → (entry_at old k).cell ≡ cell_of source.now
@@ -275,8 +297,10 @@ fn come_to_kept<C: CellRunner>(
         → CountsFront old new now before meter.old
         → CountsFront old new (now + 1) before meter.new }
 {
-    leave_between::<C>(records, i, k, state)?;
-    let made = pass::<C>(alloc, meter, records, words, source, world, k, now, state)?;
+    leave_between::<C>(alloc, records, snapshots, i, k, state)?;
+    let made = pass::<C>(
+        alloc, meter, records, snapshots, words, source, world, k, now, state,
+    )?;
     settle::<C>(records, k, made, k + 1)
 }
 
@@ -285,6 +309,7 @@ fn come_to_edited<C: CellRunner>(
     alloc: Global,
     meter: &mut Meter,
     records: &[Rc<C::Record>],
+    snapshots: &[Snapshot<C>],
     source: &KeptCell,
     world: &C::World,
     i: usize,
@@ -300,6 +325,9 @@ fn come_to_edited<C: CellRunner>(
         × IsAt old new i now (C.change_of state.old.change) (C.session_of state.old.session)
         state.old.since }
     requires covered { IsWordOfChange C.covers state.old.word (C.change_of state.old.change) }
+    requires kept { (b : Book) → IsRun b (each_of C.recorded records.now)
+        → All (λ s. IsSnapshot b s.place (C.kept_session s.version)
+        (map C.change_of s.pending.items)) snapshots.now }
     ensures at { IfOk result (λ p. (old new : Book)
         → IsNext old new i now (each_of C.recorded records.now) (cell_of source.now)
         (world_in (C.given world.now)) → IsStale old new (entry_at new now)
@@ -325,8 +353,10 @@ fn come_to_edited<C: CellRunner>(
         → CountsFront old new now before meter.old
         → CountsFront old new (now + 1) before meter.new }
 {
-    leave_between::<C>(records, i, k, state)?;
-    let new = run_there::<C>(alloc, meter, records, source, world, k, now, state)?;
+    leave_between::<C>(alloc, records, snapshots, i, k, state)?;
+    let new = run_there::<C>(
+        alloc, meter, records, snapshots, source, world, k, now, state,
+    )?;
     settle::<C>(records, k, Some(new), k + 1)
 }
 
@@ -335,6 +365,7 @@ fn come_to_moved<C: CellRunner>(
     alloc: Global,
     meter: &mut Meter,
     records: &[Rc<C::Record>],
+    snapshots: &[Snapshot<C>],
     source: &KeptCell,
     world: &C::World,
     i: usize,
@@ -349,6 +380,9 @@ fn come_to_moved<C: CellRunner>(
         (world_in (C.given world.now)) × ((entry_at old k).cell ≡ cell_of source.now)
         × IsAt old new i now (C.change_of state.old.change) (C.session_of state.old.session)
         state.old.since }
+    requires kept { (b : Book) → IsRun b (each_of C.recorded records.now)
+        → All (λ s. IsSnapshot b s.place (C.kept_session s.version)
+        (map C.change_of s.pending.items)) snapshots.now }
     ensures at { IfOk result (λ p. (old new : Book)
         → IsNext old new i now (each_of C.recorded records.now) (cell_of source.now)
         (world_in (C.given world.now)) → (entry_at old k).cell ≡ cell_of source.now
@@ -375,7 +409,9 @@ fn come_to_moved<C: CellRunner>(
         → CountsFront old new (now + 1) before meter.new }
 {
     let made = &records[k];
-    let made = enter::<C>(alloc, meter, records, source, made, world, i, now, state)?;
+    let made = enter::<C>(
+        alloc, meter, records, snapshots, source, made, world, i, now, state,
+    )?;
     settle::<C>(records, k, made, i)
 }
 
@@ -384,6 +420,7 @@ fn come_to_new<C: CellRunner>(
     alloc: Global,
     meter: &mut Meter,
     records: &[Rc<C::Record>],
+    snapshots: &[Snapshot<C>],
     source: &KeptCell,
     world: &C::World,
     i: usize,
@@ -396,6 +433,9 @@ fn come_to_new<C: CellRunner>(
         (world_in (C.given world.now))
         × IsAt old new i now (C.change_of state.old.change) (C.session_of state.old.session)
         state.old.since }
+    requires kept { (b : Book) → IsRun b (each_of C.recorded records.now)
+        → All (λ s. IsSnapshot b s.place (C.kept_session s.version)
+        (map C.change_of s.pending.items)) snapshots.now }
     ensures at { IfOk result (λ p. (old new : Book)
         → IsNext old new i now (each_of C.recorded records.now) (cell_of source.now)
         (world_in (C.given world.now))
@@ -420,8 +460,7 @@ fn come_to_new<C: CellRunner>(
         → CountsFront old new now before meter.old
         → CountsFront old new (now + 1) before meter.new }
 {
-    catch_up::<C>(records, &mut state.session, state.since, i)?;
-    state.since = i;
+    come_to::<C>(alloc, records, snapshots, i, state)?;
     let New { record, word } = run_new::<C>(alloc, meter, source, world, now, state)?;
     let is_run = true;
     Ok(Placed {
@@ -438,6 +477,7 @@ pub(crate) fn merge_cell<C: CellRunner>(
     meter: &mut Meter,
     cells: &[Rc<KeptCell>],
     records: &[Rc<C::Record>],
+    snapshots: &[Snapshot<C>],
     words: &[C::Word],
     cell: &KeptCell,
     hint: Hint,
@@ -456,6 +496,9 @@ pub(crate) fn merge_cell<C: CellRunner>(
         state.old.since }
     requires words { AreWords C.covers words.now (each_of C.recorded records.now) }
     requires covered { IsWordOfChange C.covers state.old.word (C.change_of state.old.change) }
+    requires kept { (b : Book) → IsRun b (each_of C.recorded records.now)
+        → All (λ s. IsSnapshot b s.place (C.kept_session s.version)
+        (map C.change_of s.pending.items)) snapshots.now }
     ensures at { IfOk result (λ p. (old new : Book)
         → IsNext old new i now (each_of C.recorded records.now) (cell_of cell.now)
         (world_in (C.given world.now)) → old.cells ≡ cells_of cells.now
@@ -483,13 +526,19 @@ pub(crate) fn merge_cell<C: CellRunner>(
 {
     match find_way(cells, cell, hint, i) {
         Way::Kept(k) => {
-            come_to_kept::<C>(alloc, meter, records, words, cell, world, i, k, now, state)
+            come_to_kept::<C>(
+                alloc, meter, records, snapshots, words, cell, world, i, k, now, state,
+            )
         }
         Way::Edited(k) => {
-            come_to_edited::<C>(alloc, meter, records, cell, world, i, k, now, state)
+            come_to_edited::<C>(
+                alloc, meter, records, snapshots, cell, world, i, k, now, state,
+            )
         }
-        Way::Moved(k) => come_to_moved::<C>(alloc, meter, records, cell, world, i, k, now, state),
-        Way::New => come_to_new::<C>(alloc, meter, records, cell, world, i, now, state),
+        Way::Moved(k) => come_to_moved::<C>(
+            alloc, meter, records, snapshots, cell, world, i, k, now, state,
+        ),
+        Way::New => come_to_new::<C>(alloc, meter, records, snapshots, cell, world, i, now, state),
     }
 }
 

@@ -37,7 +37,7 @@ use crate::schedule::noting::Noted;
 use crate::schedule::ran::{Shift, note_places};
 use crate::schedule::runner::CellRunner;
 use crate::schedule::snapshots::Snapshot;
-use crate::schedule::sweep::{Changed, New, SweepState, catch_up, run_new, sweep};
+use crate::schedule::sweep::{Changed, New, SweepState, come_to, run_new, sweep};
 use nd_meter::Meter;
 use std::alloc::{AllocError, Global};
 use std::mem::swap;
@@ -151,7 +151,9 @@ impl<C: CellRunner> Moved<C> {
 
 /// Takes out what the cell at a place did, where a sweep stands.
 pub(crate) fn leave<C: CellRunner>(
+    alloc: Global,
     records: &[Rc<C::Record>],
+    snapshots: &[Snapshot<C>],
     i: usize,
     state: &mut SweepState<C>,
 ) -> Result<(), AllocError>
@@ -161,6 +163,9 @@ pub(crate) fn leave<C: CellRunner>(
         × IsRun old (each_of C.recorded records.now) × IsPlace old new i j
         × IsAt old new i j (C.change_of state.old.change) (C.session_of state.old.session)
         state.old.since }
+    requires kept { (b : Book) → IsRun b (each_of C.recorded records.now)
+        → All (λ s. IsSnapshot b s.place (C.kept_session s.version)
+        (map C.change_of s.pending.items)) snapshots.now }
     ensures at { OnOk result ((old new : Book) (j : ℕ)
         → IsRun old (each_of C.recorded records.now) → IsPlace old new i j
         → IsAt old new i j (C.change_of state.old.change) (C.session_of state.old.session)
@@ -171,7 +176,7 @@ pub(crate) fn leave<C: CellRunner>(
         (C.change_of state.new.change)) }
     ensures changed { OnOk result (state.new.changed.items ≡ state.old.changed.items) }
 {
-    catch_up::<C>(records, &mut state.session, state.since, i)?;
+    come_to::<C>(alloc, records, snapshots, i, state)?;
     C::went(&records[i], &state.session, &mut state.change)?;
     state.word = C::change_word(&state.change);
     state.since = i + 1;
@@ -236,6 +241,7 @@ pub(crate) fn enter<C: CellRunner>(
     alloc: Global,
     meter: &mut Meter,
     records: &[Rc<C::Record>],
+    snapshots: &[Snapshot<C>],
     source: &KeptCell,
     made: &C::Record,
     world: &C::World,
@@ -249,6 +255,9 @@ pub(crate) fn enter<C: CellRunner>(
         (C.recorded made.now) (world_in (C.given world.now))
         × IsAt old new i j (C.change_of state.old.change) (C.session_of state.old.session)
         state.old.since }
+    requires kept { (b : Book) → IsRun b (each_of C.recorded records.now)
+        → All (λ s. IsSnapshot b s.place (C.kept_session s.version)
+        (map C.change_of s.pending.items)) snapshots.now }
     ensures at { OnOk result ((old new : Book) (from j : ℕ)
         → IsComing old new from i j (each_of C.recorded records.now) (cell_of source.now)
         (C.recorded made.now) (world_in (C.given world.now))
@@ -282,8 +291,7 @@ pub(crate) fn enter<C: CellRunner>(
         state.old.since
         → CountsFront old new j before meter.old → CountsFront old new (j + 1) before meter.new }
 {
-    catch_up::<C>(records, &mut state.session, state.since, i)?;
-    state.since = i;
+    come_to::<C>(alloc, records, snapshots, i, state)?;
     put_in::<C>(alloc, meter, source, made, world, now, state)
 }
 
@@ -342,7 +350,7 @@ pub(crate) fn move_down<C: CellRunner>(
         state.old.since
         → CountsStale old new meter.old meter.new }
 {
-    leave::<C>(records, from, state)?;
+    leave::<C>(alloc, records, snapshots, from, state)?;
     state.shift = Shift::Earlier;
     sweep::<C>(
         alloc,
@@ -355,7 +363,6 @@ pub(crate) fn move_down<C: CellRunner>(
         to + 1,
         from,
         snapshots,
-        true,
         state,
         &mut moved.noted,
     )?;
@@ -364,6 +371,7 @@ pub(crate) fn move_down<C: CellRunner>(
         alloc,
         meter,
         records,
+        snapshots,
         &cells[from],
         &records[from],
         world,
@@ -384,7 +392,6 @@ pub(crate) fn move_down<C: CellRunner>(
         cells.len(),
         to + 1,
         snapshots,
-        false,
         state,
         &mut moved.noted,
     )?;
@@ -451,6 +458,7 @@ pub(crate) fn move_up<C: CellRunner>(
         alloc,
         meter,
         records,
+        snapshots,
         &cells[from],
         &records[from],
         world,
@@ -471,12 +479,11 @@ pub(crate) fn move_up<C: CellRunner>(
         from,
         to + 1,
         snapshots,
-        true,
         state,
         &mut moved.noted,
     )?;
     swap(&mut moved.between, &mut state.changed);
-    leave::<C>(records, from, state)?;
+    leave::<C>(alloc, records, snapshots, from, state)?;
     state.shift = Shift::Stays;
     sweep::<C>(
         alloc,
@@ -489,7 +496,6 @@ pub(crate) fn move_up<C: CellRunner>(
         cells.len(),
         from + 1,
         snapshots,
-        false,
         state,
         &mut moved.noted,
     )?;

@@ -272,7 +272,6 @@ impl<C: CellRunner> Schedule<C> {
             self.cells.len(),
             now,
             &self.snapshots,
-            false,
             &mut state,
             &mut noted,
         );

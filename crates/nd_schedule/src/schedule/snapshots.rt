@@ -68,7 +68,7 @@ pub struct Snapshot<C: CellRunner> {
 }
 
 /// A session with all pending changes of a snapshot put over it, or none where one of them cannot be.
-pub(crate) fn thawed<C: CellRunner>(
+fn thawed<C: CellRunner>(
     alloc: Global,
     snapshot: &Snapshot<C>,
 ) -> Result<Option<C::Session>, AllocError>
@@ -131,7 +131,7 @@ fn refreshed<C: CellRunner>(
 }
 
 /// The last snapshot whose place is not behind this one.
-fn last_up_to<C: CellRunner>(snapshots: &[Snapshot<C>], at: usize) -> Option<usize>
+pub(crate) fn last_up_to<C: CellRunner>(snapshots: &[Snapshot<C>], at: usize) -> Option<usize>
     ensures within { IfSome result (λ k. k < length snapshots.now) }
     ensures up_to { IfSome result
         (λ k. slice_index_or (map (λ s. s.place) snapshots.now) k 0 ≤ at) }
@@ -205,6 +205,32 @@ pub(crate) fn replay_between<C: CellRunner>(
         replay_one::<C>(&records[k], session)?;
     }
     Ok(())
+}
+
+/// A session that is alike to the one before a place, made from a snapshot in front of it. There is none where one of the changes of the
+/// snapshot cannot be put over it.
+pub(crate) fn session_from<C: CellRunner>(
+    alloc: Global,
+    records: &[Rc<C::Record>],
+    snapshot: &Snapshot<C>,
+    at: usize,
+) -> Result<Option<C::Session>, AllocError>
+    requires order { snapshot.now.place ≤ at }
+    requires within { at ≤ length records.now }
+    requires run { (b : Book) × IsRun b (each_of C.recorded records.now)
+        × IsSnapshot b snapshot.now.place (C.kept_session snapshot.now.version)
+        (map C.change_of snapshot.now.pending.items) }
+    ensures { IfOk result (λ o. IfSome o (λ s. (b : Book)
+        → IsRun b (each_of C.recorded records.now)
+        → IsSnapshot b snapshot.now.place (C.kept_session snapshot.now.version)
+        (map C.change_of snapshot.now.pending.items)
+        → StandsBefore b at (C.session_of s))) }
+{
+    let Some(mut session) = thawed::<C>(alloc, snapshot)? else {
+        return Ok(None);
+    };
+    replay_between::<C>(records, &mut session, snapshot.place, at)?;
+    Ok(Some(session))
 }
 
 /// The index of the first snapshot that is behind a place.
@@ -692,6 +718,7 @@ fn carry_noted<C: CellRunner>(
     let mut next = count;
     for note in noted {
         let Some(k) = find_at::<C>(snapshots, next, note.place) else {
+            drop(note);
             continue;
         };
         let from = last_place::<C>(&snapshots[..stay]);

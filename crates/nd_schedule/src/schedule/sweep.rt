@@ -1,11 +1,12 @@
 //! `sweep`: carries a change over the cells behind an edit, runs those whose records do not fit it, and notes it for the snapshots.
 
-ghost use Rattle.std.specs.Prelude.{◌≡◌, ◌<◌, ◌≤◌, ◌+◌, ◌-◌, ◌^◌, ◌++◌, ◌∷◌, [], ℕ, IfOk, OnOk, length, map, min};
+ghost use Rattle.std.specs.Prelude.{◌≡◌, ◌<◌, ◌≤◌, ◌+◌, ◌-◌, ◌^◌, ◌++◌, ◌∷◌, ◌⊎◌, [], ℕ, IfOk, IfSome, None, OnOk, length, map, min};
 ghost use Rattle.std.specs.Prelude.{string_bytes};
 ghost use Rattle.std.specs.List.{All};
 ghost use Rattle.nd_model.specs.Grammar.Reading.{reading};
 ghost use Rattle.nd_model.specs.Cells.Cell.{cell, session_after};
 ghost use Rattle.nd_model.specs.Cells.Footprint.{HasNone};
+ghost use Rattle.nd_model.specs.Cells.Running.{Key};
 ghost use Rattle.nd_model.specs.Book.Records.{record_of};
 ghost use Rattle.nd_model.specs.Book.Stale.{CountsStale};
 ghost use Rattle.nd_model.specs.Book.Book.{Book};
@@ -13,7 +14,7 @@ ghost use Rattle.nd_model.specs.Book.Notebook.{world_in};
 ghost use Rattle.nd_schedule.specs.Cells.Source.{cells_of};
 ghost use Rattle.nd_schedule.specs.Cells.Shared.{each_of};
 ghost use Rattle.nd_change.specs.Steps.{Comes, Follows, IsWordOf, IsWordOfChange};
-ghost use Rattle.nd_schedule.specs.Schedule.Snapshot.{IsNoted, IsSnapshot};
+ghost use Rattle.nd_schedule.specs.Schedule.Snapshot.{IsChangeAt, IsNoted, IsSnapshot};
 ghost use Rattle.nd_schedule.specs.Schedule.Apart.{AreApart};
 ghost use Rattle.nd_schedule.specs.Schedule.Sweep.{AreChanged, AreFit, AreWords, CountsFront, IsAt, IsAtHand, IsFrame, IsPlace, IsRun, change_at, fit_at};
 
@@ -21,7 +22,7 @@ use crate::cells::KeptCell;
 use crate::schedule::noting::{Noted, note};
 use crate::schedule::ran::Shift;
 use crate::schedule::runner::CellRunner;
-use crate::schedule::snapshots::{MOST_KEYS, Snapshot, replay_one, thawed};
+use crate::schedule::snapshots::{MOST_KEYS, Snapshot, last_up_to, replay_one, session_from};
 use nd_meter::Meter;
 use std::alloc::{AllocError, Global};
 use std::rc::Rc;
@@ -46,8 +47,8 @@ pub struct SweepState<C: CellRunner> {
     pub(crate) shift: Shift,
 }
 
-/// Brings the session at hand to the place where the sweep stands.
-pub(crate) fn catch_up<C: CellRunner>(
+/// Brings the session at hand to the place where the sweep stands, by replays.
+fn catch_up<C: CellRunner>(
     records: &[Rc<C::Record>],
     session: &mut C::Session,
     since: usize,
@@ -66,6 +67,77 @@ pub(crate) fn catch_up<C: CellRunner>(
     for k in since..to {
         replay_one::<C>(&records[k], session)?;
     }
+    Ok(())
+}
+
+/// A session for the place where the sweep stands: the last snapshot in front, brought to the place, with the change put over it. There is
+/// none where the session at hand is as near, or the change has too many keys or cannot be put over a session.
+fn nearer<C: CellRunner>(
+    alloc: Global,
+    records: &[Rc<C::Record>],
+    snapshots: &[Snapshot<C>],
+    i: usize,
+    state: &SweepState<C>,
+) -> Result<Option<C::Session>, AllocError>
+    requires within { i ≤ length records.now }
+    requires run { (b : Book) × IsRun b (each_of C.recorded records.now) }
+    requires kept { (b : Book) → IsRun b (each_of C.recorded records.now)
+        → All (λ s. IsSnapshot b s.place (C.kept_session s.version)
+        (map C.change_of s.pending.items)) snapshots.now }
+    ensures { IfOk result (λ o. IfSome o (λ s. (old new : Book) (j : ℕ)
+        → IsRun old (each_of C.recorded records.now) → IsPlace old new i j
+        → IsChangeAt old new i j (C.change_of state.now.change)
+        → IsAtHand old new i j (C.session_of s) i)) }
+{
+    let Some(k) = last_up_to::<C>(snapshots, i) else {
+        return Ok(None);
+    };
+    let snapshot = &snapshots[k];
+    if snapshot.place <= state.since || C::change_count(&state.change) > MOST_KEYS {
+        return Ok(None);
+    }
+    let Some(mut session) = session_from::<C>(alloc, records, snapshot, i)? else {
+        return Ok(None);
+    };
+    if !C::patch(&state.change, &mut session)? {
+        return Ok(None);
+    }
+    Ok(Some(session))
+}
+
+/// Brings the session at hand to the place where the sweep stands: takes a nearer one, or replays the records since. It replays too where
+/// memory is wanting for a nearer one.
+pub(crate) fn come_to<C: CellRunner>(
+    alloc: Global,
+    records: &[Rc<C::Record>],
+    snapshots: &[Snapshot<C>],
+    i: usize,
+    state: &mut SweepState<C>,
+) -> Result<(), AllocError>
+    requires within { i ≤ length records.now }
+    requires at { (old : Book) × (new : Book) × (j : ℕ)
+        × IsRun old (each_of C.recorded records.now) × IsPlace old new i j
+        × IsAt old new i j (C.change_of state.old.change) (C.session_of state.old.session)
+        state.old.since }
+    requires kept { (b : Book) → IsRun b (each_of C.recorded records.now)
+        → All (λ s. IsSnapshot b s.place (C.kept_session s.version)
+        (map C.change_of s.pending.items)) snapshots.now }
+    ensures at { OnOk result ((old new : Book) (j : ℕ)
+        → IsRun old (each_of C.recorded records.now) → IsPlace old new i j
+        → IsAt old new i j (C.change_of state.old.change) (C.session_of state.old.session)
+        state.old.since
+        → IsAt old new i j (C.change_of state.new.change) (C.session_of state.new.session) i) }
+    ensures since { OnOk result (state.new.since ≡ i) }
+    ensures change { state.new.change ≡ state.old.change }
+    ensures word { state.new.word ≡ state.old.word }
+    ensures changed { state.new.changed.items ≡ state.old.changed.items }
+{
+    if let Ok(Some(session)) = nearer::<C>(alloc, records, snapshots, i, state) {
+        state.session = session;
+    } else {
+        catch_up::<C>(records, &mut state.session, state.since, i)?;
+    }
+    state.since = i;
     Ok(())
 }
 
@@ -212,26 +284,26 @@ pub(crate) fn run_new<C: CellRunner>(
 }
 
 /// Goes past one cell: its record is kept, or the cell is run.
-pub(crate) fn visit<C: CellRunner>(
+fn visit<C: CellRunner>(
     alloc: Global,
     meter: &mut Meter,
     cells: &[Rc<KeptCell>],
     records: &[Rc<C::Record>],
-    words: &[C::Word],
+    snapshots: &[Snapshot<C>],
     world: &C::World,
     i: usize,
     state: &mut SweepState<C>,
 ) -> Result<(), AllocError>
     requires cell { i < length cells.now }
     requires record { i < length records.now }
-    requires word { i < length words.now }
     requires at { (old : Book) × (new : Book) × (j : ℕ)
         × IsFrame old new i j (i + 1) (cells_of cells.now) (each_of C.recorded records.now)
         (world_in (C.given world.now))
         × IsAt old new i j (C.change_of state.old.change) (C.session_of state.old.session)
         state.old.since }
-    requires words { AreWords C.covers words.now (each_of C.recorded records.now) }
-    requires covered { IsWordOfChange C.covers state.old.word (C.change_of state.old.change) }
+    requires kept { (b : Book) → IsRun b (each_of C.recorded records.now)
+        → All (λ s. IsSnapshot b s.place (C.kept_session s.version)
+        (map C.change_of s.pending.items)) snapshots.now }
     ensures at { OnOk result ((old new : Book) (j : ℕ)
         → IsFrame old new i j (i + 1) (cells_of cells.now) (each_of C.recorded records.now)
         (world_in (C.given world.now))
@@ -261,20 +333,43 @@ pub(crate) fn visit<C: CellRunner>(
         state.old.since
         → CountsFront old new j before meter.old → CountsFront old new (j + 1) before meter.new }
 {
-    if C::are_apart(&words[i], &state.word) {
-        return Ok(());
-    }
     let made = &records[i];
     if C::fits(made, &state.change) {
         C::keep(made, &mut state.change)?;
         state.word = C::change_word(&state.change);
         return Ok(());
     }
-    catch_up::<C>(records, &mut state.session, state.since, i)?;
+    come_to::<C>(alloc, records, snapshots, i, state)?;
     run_again::<C>(alloc, meter, &cells[i], made, world, i, state)
 }
 
-/// Goes past the cells from a place up to another where no snapshot stands between. Once the change has nothing left, no cell is looked at.
+/// The first of some cells that meets the change, by their words, or the end. None is looked at where the change has nothing left.
+fn first_met<C: CellRunner>(
+    words: &[C::Word],
+    from: usize,
+    to: usize,
+    state: &SweepState<C>,
+) -> usize
+    requires order { from ≤ to }
+    requires places { to ≤ length words.now }
+    ensures order { from ≤ result }
+    ensures within { result ≤ to }
+    ensures apart { ((key : Key) → C.change_of state.now.change key ≡ None)
+        ⊎ AreApart C.covers words.now state.now.word from result }
+{
+    if C::is_empty(&state.change) {
+        return to;
+    }
+    for k in from..to {
+        if !C::are_apart(&words[k], &state.word) {
+            return k;
+        }
+    }
+    to
+}
+
+/// Goes past the cells from a place up to another, from one that meets the change to the next. Once the change has nothing left, no cell is
+/// looked at.
 fn sweep_between<C: CellRunner>(
     alloc: Global,
     meter: &mut Meter,
@@ -284,6 +379,7 @@ fn sweep_between<C: CellRunner>(
     world: &C::World,
     i: usize,
     to: usize,
+    snapshots: &[Snapshot<C>],
     state: &mut SweepState<C>,
 ) -> Result<(), AllocError>
     requires order { i ≤ to }
@@ -297,6 +393,9 @@ fn sweep_between<C: CellRunner>(
         state.old.since }
     requires words { AreWords C.covers words.now (each_of C.recorded records.now) }
     requires covered { IsWordOfChange C.covers state.old.word (C.change_of state.old.change) }
+    requires kept { (b : Book) → IsRun b (each_of C.recorded records.now)
+        → All (λ s. IsSnapshot b s.place (C.kept_session s.version)
+        (map C.change_of s.pending.items)) snapshots.now }
     ensures at { OnOk result ((old new : Book) (j : ℕ)
         → IsFrame old new i j to (cells_of cells.now) (each_of C.recorded records.now)
         (world_in (C.given world.now))
@@ -333,152 +432,15 @@ fn sweep_between<C: CellRunner>(
         state.old.since
         → CountsFront old new j before meter.old → CountsStale old new before meter.new }
 {
-    for k in i..to {
-        if C::is_empty(&state.change) {
-            return Ok(());
-        }
-        visit::<C>(alloc, meter, cells, records, words, world, k, state)?;
+    let mut at = first_met::<C>(words, i, to, state);
+    while at < to {
+        visit::<C>(alloc, meter, cells, records, snapshots, world, at, state)?;
+        at = first_met::<C>(words, at + 1, to, state);
     }
     Ok(())
 }
 
-/// The first of some cells that meets the change, by their words, or the end. None is looked at where the change has nothing left.
-fn first_met<C: CellRunner>(
-    words: &[C::Word],
-    from: usize,
-    to: usize,
-    state: &SweepState<C>,
-) -> usize
-    requires order { from ≤ to }
-    requires places { to ≤ length words.now }
-    ensures order { from ≤ result }
-    ensures within { result ≤ to }
-    ensures apart { AreApart C.covers words.now state.now.word from result }
-{
-    if C::is_empty(&state.change) {
-        return from;
-    }
-    for k in from..to {
-        if !C::are_apart(&words[k], &state.word) {
-            return k;
-        }
-    }
-    to
-}
-
-/// Whether one of some cells meets the change, and perhaps does not fit it, so that a session nearer to it is of use. None is looked at
-/// where the change has nothing left, or too much to be put over a session, and where the session at hand is near. No answer depends on it.
-pub(crate) fn may_run<C: CellRunner>(
-    records: &[Rc<C::Record>],
-    words: &[C::Word],
-    from: usize,
-    to: usize,
-    state: &SweepState<C>,
-) -> bool
-    requires records { to ≤ length records.now }
-    requires places { to ≤ length words.now }
-{
-    if C::is_empty(&state.change) {
-        return false;
-    }
-    if state.since >= from || C::change_count(&state.change) > MOST_KEYS {
-        return false;
-    }
-    for k in from..to {
-        if !C::are_apart(&words[k], &state.word) && !C::fits(&records[k], &state.change) {
-            return true;
-        }
-    }
-    false
-}
-
-/// The place of the snapshot of this index, if it stands from a place on up to another: else the latter.
-fn place_between<C: CellRunner>(
-    snapshots: &[Snapshot<C>],
-    k: usize,
-    from: usize,
-    to: usize,
-) -> usize
-    requires { from ≤ to }
-    ensures order { from ≤ result }
-    ensures within { result ≤ to }
-{
-    match snapshots.get(k) {
-        Some(snapshot) => snapshot.place.max(from).min(to),
-        None => to,
-    }
-}
-
-/// Whether no snapshot stands behind a place and up to another.
-fn is_last<C: CellRunner>(snapshots: &[Snapshot<C>], place: usize, to: usize) -> bool {
-    for snapshot in snapshots {
-        if place < snapshot.place && snapshot.place <= to {
-            return false;
-        }
-    }
-    true
-}
-
-/// Whether the snapshot at a place is of use as the session at hand: a cell up to the next one may run, or a session is wanted at the end,
-/// and no snapshot stands nearer to that. No cell in front of `met` meets the change. No answer depends on it.
-fn is_session_due<C: CellRunner>(
-    records: &[Rc<C::Record>],
-    words: &[C::Word],
-    snapshots: &[Snapshot<C>],
-    place: usize,
-    met: usize,
-    next: usize,
-    to: usize,
-    is_wanted: bool,
-    state: &SweepState<C>,
-) -> bool
-    requires records { next ≤ length records.now }
-    requires places { next ≤ length words.now }
-{
-    if state.since >= place {
-        return false;
-    }
-    if is_wanted && is_last::<C>(snapshots, place, to) {
-        return true;
-    }
-    may_run::<C>(records, words, met, next, state)
-}
-
-/// Takes a snapshot with the change put over it as the session at hand, where that is nearer. Where it cannot be patched, and for want of
-/// memory, the session at hand stays.
-pub(crate) fn take_nearer<C: CellRunner>(
-    alloc: Global,
-    snapshot: &Snapshot<C>,
-    is_due: bool,
-    state: &mut SweepState<C>,
-)
-    ensures at { (old new : Book) (j : ℕ) → IsPlace old new snapshot.now.place j
-        → IsSnapshot old snapshot.now.place (C.kept_session snapshot.now.version)
-        (map C.change_of snapshot.now.pending.items)
-        → IsAt old new snapshot.now.place j (C.change_of state.old.change)
-        (C.session_of state.old.session) state.old.since
-        → IsAt old new snapshot.now.place j (C.change_of state.new.change)
-        (C.session_of state.new.session) state.new.since }
-    ensures change { state.new.change ≡ state.old.change }
-    ensures word { state.new.word ≡ state.old.word }
-    ensures changed { state.new.changed.items ≡ state.old.changed.items }
-{
-    if !is_due {
-        return;
-    }
-    let Ok(Some(mut session)) = thawed::<C>(alloc, snapshot) else {
-        return;
-    };
-    let Ok(true) = C::patch(&state.change, &mut session) else {
-        return;
-    };
-    state.session = session;
-    state.since = snapshot.place;
-}
-
-/// Goes past the cells from a place up to another. Where a snapshot stands, the change there is noted with the place now, and the cells up
-/// to the first that meets the change are gone past at once. Where a session is wanted behind them, the last snapshot is taken as the session
-/// at hand.
+/// Goes past the cells from a place up to another. Where a snapshot stands, the change there is noted with the place now.
 pub(crate) fn sweep<C: CellRunner>(
     alloc: Global,
     meter: &mut Meter,
@@ -490,7 +452,6 @@ pub(crate) fn sweep<C: CellRunner>(
     to: usize,
     now: usize,
     snapshots: &[Snapshot<C>],
-    is_wanted: bool,
     state: &mut SweepState<C>,
     noted: &mut Vec<Noted<C>>,
 ) -> Result<(), AllocError>
@@ -554,13 +515,14 @@ pub(crate) fn sweep<C: CellRunner>(
         → CountsFront old new j before meter.old → CountsStale old new before meter.new }
 {
     let mut at = i;
-    for k in 0..snapshots.len() {
-        let snapshot = &snapshots[k];
+    for snapshot in snapshots {
         let place = snapshot.place;
         if place < at || to < place {
             continue;
         }
-        sweep_between::<C>(alloc, meter, cells, records, words, world, at, place, state)?;
+        sweep_between::<C>(
+            alloc, meter, cells, records, words, world, at, place, snapshots, state,
+        )?;
         let is_end = place == records.len();
         let is_there = state.since == place;
         note::<C>(
@@ -572,13 +534,9 @@ pub(crate) fn sweep<C: CellRunner>(
             &mut state.session,
             noted,
         );
-        let next = place_between::<C>(snapshots, k + 1, place, to);
-        let met = first_met::<C>(words, place, next, state);
-        let is_due = is_session_due::<C>(
-            records, words, snapshots, place, met, next, to, is_wanted, state,
-        );
-        take_nearer::<C>(alloc, snapshot, is_due, state);
-        at = met;
+        at = place;
     }
-    sweep_between::<C>(alloc, meter, cells, records, words, world, at, to, state)
+    sweep_between::<C>(
+        alloc, meter, cells, records, words, world, at, to, snapshots, state,
+    )
 }

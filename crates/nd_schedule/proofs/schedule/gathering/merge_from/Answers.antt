@@ -50,29 +50,16 @@ returns-in_err-put_behind-clause-counts g c = λ old new before merge at so_far.
     counts_stale old new (c.loop-j.j + 1) before _ (c.merge_cell.ensures.counts old new before (next_of old new (cells_of c.args.cells.now) (cells_of c.args.drafted.now) _ _ merge c.loop-j.i c.loop-j.j (omega (arith, c.loop-j.invariant.within, length-map c.args.cells.now (λ s. cell_of s.value))) (omega (arith, c.loop-j-test.true, length-map c.args.drafted.now (λ s. cell_of s.value))) (cell_of c.deref.result.now)
     (cell_there c.args.drafted.now c.loop-j.j c.index-drafted-j.result c.deref.result.now (omega (arith, c.loop-j-test.true)) c.index-drafted-j.is c.deref.ensures)) merge.cells (c.loop-j.invariant.at old new merge at) (c.loop-j.invariant.counts old new before merge at so_far))
 
-pub stop_at-next-requires-clause-cells : goal.stop_at-next-requires-clause-cells
-stop_at-next-requires-clause-cells g c = c.requires.cells
-
-pub stop_at-next-requires-clause-places : goal.stop_at-next-requires-clause-places
-stop_at-next-requires-clause-places g c = c.requires.places
-
-pub stop_at-next-requires-clause-hints : goal.stop_at-next-requires-clause-hints
-stop_at-next-requires-clause-hints g c = c.requires.hints
-
-pub stop_at-next-requires-clause-next : goal.stop_at-next-requires-clause-next
-stop_at-next-requires-clause-next g c = c.loop-j.invariant.next
-
-pub stop_at-next-requires-clause-within : goal.stop_at-next-requires-clause-within
-stop_at-next-requires-clause-within g c = c.in_ok-placed.ensures.behind
-
-pub stop_at-next-requires-clause-there : goal.stop_at-next-requires-clause-there
-stop_at-next-requires-clause-there g c = omega (arith, c.loop-j-test.true)
+pub stop_at-next-requires : goal.stop_at-next-requires
+stop_at-next-requires g c = c.loop-j.invariant.next
 
 pub loop-j-preserved : goal.loop-j-preserved
 loop-j-preserved g c = record {
   within = c.in_ok-placed.ensures.behind;
   next = c.stop_at-next.ensures.next;
-  at = λ old new merge at. c.stop_at-next.ensures.at old new (place_of old new (cells_of c.args.cells.now) (cells_of c.args.drafted.now) _ _ merge _ (c.loop-j.j + 1) (omega (arith, c.in_ok-placed.ensures.behind, length-map c.args.cells.now (λ s. cell_of s.value))) (omega (arith, c.loop-j-test.true, length-map c.args.drafted.now (λ s. cell_of s.value)))) (c.requires.kept old merge.run) (c.in_ok-placed.ensures.at old new (next_of old new (cells_of c.args.cells.now) (cells_of c.args.drafted.now) _ _ merge c.loop-j.i c.loop-j.j (omega (arith, c.loop-j.invariant.within, length-map c.args.cells.now (λ s. cell_of s.value))) (omega (arith, c.loop-j-test.true, length-map c.args.drafted.now (λ s. cell_of s.value))) (cell_of c.deref.result.now)
+  at = λ old new merge at.
+      c.stop_at-next.ensures.at old new
+      (c.in_ok-placed.ensures.at old new (next_of old new (cells_of c.args.cells.now) (cells_of c.args.drafted.now) _ _ merge c.loop-j.i c.loop-j.j (omega (arith, c.loop-j.invariant.within, length-map c.args.cells.now (λ s. cell_of s.value))) (omega (arith, c.loop-j-test.true, length-map c.args.drafted.now (λ s. cell_of s.value))) (cell_of c.deref.result.now)
       (cell_there c.args.drafted.now c.loop-j.j c.index-drafted-j.result c.deref.result.now (omega (arith, c.loop-j-test.true)) c.index-drafted-j.is c.deref.ensures)) merge.cells (c.loop-j.invariant.at old new merge at));
   covered =
       subst (λ w. IsWordOfChange g.C.CellRunner.covers w (g.C.CellRunner.change_of c.stop_at-next.new.state.change)) (sym c.stop_at-next.ensures.word)

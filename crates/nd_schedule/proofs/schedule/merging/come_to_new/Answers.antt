@@ -6,24 +6,24 @@ use Rattle.nd_schedule.proofs.schedule.Coming.{here_at, next_counts, next_none, 
 use Rattle.nd_schedule.proofs.schedule.Sweeping.{counts_same}
 use Rattle.nd_schedule.proofs.schedule.merging.come_to_new.Goals as goal
 
-pub returns-in_err-catch_up-clause-counts : goal.returns-in_err-catch_up-clause-counts
-returns-in_err-catch_up-clause-counts g c = λ old new before next stale so_far. counts_same old new c.args.now before _ next.there so_far
+pub returns-in_err-come_to-clause-counts : goal.returns-in_err-come_to-clause-counts
+returns-in_err-come_to-clause-counts g c = λ old new before next stale so_far. counts_same old new c.args.now before _ next.there so_far
 
 pub run_new-requires-clause-none : goal.run_new-requires-clause-none
 run_new-requires-clause-none g c =
     let old : Book = c.requires.at.0 in
     let new : Book = c.requires.at.1 in
-    next_none old new c.args.i c.args.now _ _ _ c.requires.at.2 (g.C.CellRunner.session_of c.catch_up.new.session)
-    (c.in_ok-catch_up.ensures old new c.args.now (c.requires.at.2).run (c.requires.at.2).place (c.requires.at.3).hand)
+    next_none old new c.args.i c.args.now _ _ _ c.requires.at.2 (g.C.CellRunner.session_of c.come_to.new.state.session)
+    (c.in_ok-come_to.ensures.at old new c.args.now (c.requires.at.2).run (c.requires.at.2).place c.requires.at.3).hand
 
 pub returns-in_err-record-clause-counts : goal.returns-in_err-record-clause-counts
 returns-in_err-record-clause-counts g c = λ old new before next stale so_far. next_counts old new c.args.i c.args.now _ (cell_of c.args.source.now) _ next before _ _ stale so_far c.run_new.ensures.counted
 
 pub returns-clause-at : goal.returns-clause-at
-returns-clause-at g c = λ old new next at. here_at old new c.args.i c.args.now _ (cell_of c.args.source.now) _ next (g.C.CellRunner.session_of c.catch_up.new.session) (c.in_ok-catch_up.ensures old new c.args.now next.run next.place at.hand) _ _ _ _ _ at.over c.in_ok-record.ensures.made c.in_ok-record.ensures.after c.in_ok-record.ensures.comes c.in_ok-record.ensures.since
+returns-clause-at g c = λ old new next at. here_at old new c.args.i c.args.now _ (cell_of c.args.source.now) _ next (g.C.CellRunner.session_of c.come_to.new.state.session) (c.in_ok-come_to.ensures.at old new c.args.now next.run next.place at).hand _ _ _ _ _ (c.in_ok-come_to.ensures.at old new c.args.now next.run next.place at).over c.in_ok-record.ensures.made c.in_ok-record.ensures.after c.in_ok-record.ensures.comes (c.in_ok-record.ensures.since ∙ c.in_ok-come_to.ensures.since)
 
 pub returns-clause-placed : goal.returns-clause-placed
-returns-clause-placed g c = λ old new next stale at. record { made = c.in_ok-record.ensures.made ∙ next_record old new c.args.i c.args.now _ (cell_of c.args.source.now) _ next (g.C.CellRunner.session_of c.catch_up.new.session) (c.in_ok-catch_up.ensures old new c.args.now next.run next.place at.hand); stale = (λ t. stale, λ s. refl) }
+returns-clause-placed g c = λ old new next stale at. record { made = c.in_ok-record.ensures.made ∙ next_record old new c.args.i c.args.now _ (cell_of c.args.source.now) _ next (g.C.CellRunner.session_of c.come_to.new.state.session) (c.in_ok-come_to.ensures.at old new c.args.now next.run next.place at).hand; stale = (λ t. stale, λ s. refl) }
 
 pub returns-clause-worded : goal.returns-clause-worded
 returns-clause-worded g c = c.in_ok-record.ensures.worded
@@ -36,9 +36,3 @@ returns-clause-counts g c = λ old new before next stale so_far. next_counts old
 
 pub returns-clause-behind : goal.returns-clause-behind
 returns-clause-behind g c = grind (arith, common_steps)
-
-pub catch_up-requires-clause-to : goal.catch_up-requires-clause-to
-catch_up-requires-clause-to g c = grind (arith, common_steps)
-
-pub catch_up-requires-clause-since : goal.catch_up-requires-clause-since
-catch_up-requires-clause-since g c = grind (arith, common_steps)

@@ -9,8 +9,8 @@ use Rattle.nd_schedule.specs.Schedule.Snapshot.{IsNoted}
 use Rattle.nd_schedule.specs.Schedule.Sweep.{AreChanged, AreFit, CountsFront, IsAt, IsFrame, change_at, fit_at}
 use Rattle.nd_schedule.proofs.schedule.sweep.sweep.Given as goal
 
-abbrev pub invariant-loop-k : goal.invariant-loop-k
-invariant-loop-k g l = record {
+abbrev pub invariant-loop-snapshot : goal.invariant-loop-snapshot
+invariant-loop-snapshot g l = record {
   behind : l.i ≤ l.at;
   upto : l.at ≤ l.to;
   at : (old new : Book) (j : ℕ) → IsFrame old new l.i j l.to (cells_of l.cells) (each_of g.C.CellRunner.recorded l.records) (world_in (g.C.CellRunner.given l.world))

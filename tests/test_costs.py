@@ -246,31 +246,35 @@ class ManyRows(unittest.TestCase):
 
 @unittest.skipUnless(real_program(), 'no program: NDNOTE_PROGRAM, or crates/ndnote/out/ndnote')
 class Times(unittest.TestCase):
-    """Processor times of statements behind a first cell, each the least of some turns."""
+    """Processor times of statements behind a first cell, the sums of some turns. The clock of another process may stand still
+    for a while where the machine's host takes time from it, so the best of some tries counts."""
 
     FIRST = ''
-    TURNS = 7
+    TURNS, TRIES = 7, 6
 
     def setUp(self) -> None:
         self.program = Program(real_program())
         self.addCleanup(self.program.close)
         self.assertEqual(self.program.insert(0, self.FIRST)[1], 'ok')
 
-    def least(self, text: str) -> float:
-        times = []
+    def seconds(self, text: str) -> float:
+        whole = 0.0
         for _turn in range(self.TURNS):
             seconds, answer = self.program.insert(1, text)
             self.assertEqual(answer, 'ok')
-            times.append(seconds)
+            whole += seconds
             self.program.remove(1)
-        return min(times)
+        return whole
+
+    def ratio(self, text: str, whole: str) -> float:
+        unit = self.seconds(whole)
+        return self.seconds(text) / max(unit, 1e-9)
 
     def check(self, most: dict[str, int], whole: str) -> None:
         """Each statement takes less than so many times what the whole one does."""
-        unit = self.least(whole)
         for text, times in most.items():
             with self.subTest(text):
-                self.assertLess(self.least(text), times * unit)
+                self.assertTrue(any(self.ratio(text, whole) < times for _try in range(self.TRIES)))
 
 
 class Views(Times):

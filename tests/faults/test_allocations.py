@@ -1,48 +1,27 @@
 """Each allocation of the program is refused in turn: one, several, and all from one on."""
 from __future__ import annotations
 
-import functools
 import random
 import tempfile
 import unittest
 from collections import Counter
 from pathlib import Path
-from typing import Iterable, List, Tuple
 
-from setting import IS_ALL, SEED, program, refusals, shim, tell, workers
+from setting import IS_ALL, SEED, program, refusals, shim, tell
 from commands import commands_of
 from judging import Fault, Script
 from notebook import FOLDER, Notebook, notebooks
-from trials import Counts, MEMORY, chosen, try_notebook
+from trials import Counts, MEMORY, chosen
+from trying import MOST, Trying
 
-MOST = 1 << 40
 INPUT = FOLDER / 'file_in_fortran_order.ndn'
 
 
-def try_all(paths: Iterable[Path], most: int) -> Tuple[Counts, List[str]]:
-    counts, faults = Counter(), []
-    one = functools.partial(try_notebook, program=program(), shim=shim(), most=most, seed=SEED)
-    with workers() as pool:
-        for found, fault in pool.map(one, paths):
-            counts.update(found)
-            faults += [fault] if fault else []
-    return counts, faults
-
-
-def summary(name: str, books: int, counts: Counts) -> str:
-    return (f'{name}: {books} notebooks, {counts["allocations"]} allocations, {counts["trials"]} trials: '
-            f'{counts["refused"]} with a refused command, {counts["ended"]} ended, {counts["answered"]} as ever')
-
-
-class OfCommands(unittest.TestCase):
-    """Of each command of the notebooks. What was refused has changed nothing, and succeeds when it is given again."""
+class OfCommands(Trying):
+    """Of each command of the notebooks."""
 
     def test_every_allocation_of_the_notebooks(self) -> None:
-        shim()
-        counts, faults = try_all(notebooks(), MOST)
-        tell(summary('every allocation', len(notebooks()), counts))
-        self.assertEqual(faults, [])
-        self.assertGreater(min(counts['refused'], counts['ended']), 0)
+        self.try_notebooks('every allocation', notebooks(), MOST)
 
 
 class OfRuns(unittest.TestCase):

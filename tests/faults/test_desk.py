@@ -10,8 +10,8 @@ from pathlib import Path
 from typing import List
 
 from setting import IS_ALL, SEED, program, refusals, shim, tell
-from test_allocations import MOST, summary
 from trials import try_notebook
+from trying import MOST, summary
 
 SCRIPT = Path(__file__).with_name('desks') / 'words.ndn'
 DESK = ('--desk',)

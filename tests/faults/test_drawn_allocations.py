@@ -6,15 +6,15 @@ import unittest
 from pathlib import Path
 from typing import List
 
-from setting import IS_ALL, SEED, TOP, shim, tell
-from test_allocations import MOST, summary, try_all
+from setting import IS_ALL, SEED, TOP
+from trying import MOST, Trying
 
 MOST_OF_LONG = 12       # allocations that are tried of each command of a long script
 STATEMENTS = 1_000
 
 
-class OfLongScripts(unittest.TestCase):
-    """What was refused has changed nothing, and succeeds when it is given again."""
+class OfLongScripts(Trying):
+    """Of each command of a long script."""
 
     def test_drawn_allocations_of_the_examples(self) -> None:
         self.draw('the examples', sorted((TOP / 'examples').glob('*.ndn')))
@@ -28,11 +28,7 @@ class OfLongScripts(unittest.TestCase):
             self.draw('a long cell', [path])
 
     def draw(self, name: str, paths: List[Path]) -> None:
-        shim()
-        counts, faults = try_all(paths, MOST if IS_ALL else MOST_OF_LONG)
-        tell(summary(f'{name}, drawn allocations, seed {SEED}', len(paths), counts))
-        self.assertEqual(faults, [])
-        self.assertGreater(min(counts['refused'], counts['ended']), 0)
+        self.try_notebooks(f'{name}, drawn allocations, seed {SEED}', paths, MOST if IS_ALL else MOST_OF_LONG)
 
 
 if __name__ == '__main__':

@@ -8,8 +8,8 @@ import unittest
 from pathlib import Path
 from typing import Dict, Iterator, List, Tuple
 
-from setting import IS_ALL, SEED, TOP, shim, tell
-from test_allocations import MOST, summary, try_all
+from setting import IS_ALL, SEED, TOP
+from trying import MOST, Trying
 
 ROWS = TOP / 'crates/test_scripts/data/edits.rows'
 LISTS = 24              # lists that are drawn
@@ -45,8 +45,8 @@ def lists_of(rows: str) -> Iterator[Tuple[str, str]]:
         yield title, ''.join(map(command_of, lines))
 
 
-class OfLists(unittest.TestCase):
-    """What was refused has changed nothing, and succeeds when it is given again."""
+class OfLists(Trying):
+    """Of each edit of the lists, and of all questions behind them."""
 
     def drawn(self) -> Dict[str, str]:
         lists = dict(lists_of(ROWS.read_text(encoding='utf-8')))
@@ -56,16 +56,12 @@ class OfLists(unittest.TestCase):
         return {title: lists[title] for title in titles}
 
     def test_drawn_allocations_of_lists_of_edits(self) -> None:
-        shim()
         with tempfile.TemporaryDirectory(prefix='ndnote-faults-') as room:
             paths: List[Path] = []
             for number, (title, script) in enumerate(sorted(self.drawn().items())):
                 paths.append(Path(room) / f'{number}_{re.sub("[^a-z]+", "_", title.lower())[:60]}.ndn')
                 paths[-1].write_text(script, encoding='utf-8')
-            counts, faults = try_all(paths, MOST if IS_ALL else MOST_OF_COMMAND)
-        tell(summary(f'lists of edits, drawn allocations, seed {SEED}', len(paths), counts))
-        self.assertEqual(faults, [])
-        self.assertGreater(min(counts['refused'], counts['ended']), 0)
+            self.try_notebooks(f'lists of edits, drawn allocations, seed {SEED}', paths, MOST if IS_ALL else MOST_OF_COMMAND)
 
 
 if __name__ == '__main__':

@@ -12,7 +12,7 @@ use crate::blocks::{
     Bases, Blocks, bytes_of, has_base, hide, remove_blocks, remove_own, share_block, stack, write,
     write_block,
 };
-use crate::layer::{Layer, most_newer};
+use crate::layer::{Layer, most_copied};
 use crate::value::{Base, Value};
 use crate::writer::BlockWriter;
 use indexmap::IndexMap;
@@ -212,12 +212,11 @@ impl BlockTable {
         }
     }
 
-    /// Makes the old blocks the only layer where the newer ones are many, or those that are gone.
-    pub(crate) fn settle(&mut self) -> Result<(), OutOfMemory>
+    /// Makes the old blocks the only layer where more than this many are newer, or gone.
+    pub(crate) fn settle(&mut self, most: usize) -> Result<(), OutOfMemory>
         ensures bytes { bytes_at self.new.blocks ≡ bytes_at self.old.blocks }
         ensures room { self.old.room ≤ self.new.room }
     {
-        let most = most_newer(self.shared.as_ref().len());
         if self.newer.len() <= most && self.gone.len() <= most {
             return Ok(());
         }
@@ -226,6 +225,15 @@ impl BlockTable {
         self.newer.clear();
         self.gone.clear();
         Ok(())
+    }
+
+    /// Makes the old blocks the only layer where those that are newer, or gone, are many for a table that is often copied.
+    pub(crate) fn settle_early(&mut self) -> Result<(), OutOfMemory>
+        ensures bytes { bytes_at self.new.blocks ≡ bytes_at self.old.blocks }
+        ensures room { self.old.room ≤ self.new.room }
+    {
+        let most = most_copied(self.shared.as_ref().len());
+        self.settle(most)
     }
 }
 

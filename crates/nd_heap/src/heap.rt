@@ -16,6 +16,7 @@ use crate::block_table::{BlockTable, pick_blocks, retain_full};
 use crate::blocks::{
     Bases, Blocks, are_held, drop_label, has_base, note_base, retain_label, retain_unheld,
 };
+use crate::layer::MOST_NEWER;
 use crate::name_table::NameTable;
 use crate::names::lies_in;
 use crate::value::{Base, Value};
@@ -325,14 +326,25 @@ impl Heap {
         Ok(())
     }
 
-    /// Merges what has changed with what copies of the heap share, where it is much: later copies
-    /// then cost less. Where memory is wanted too, names and bytes are as they were.
+    /// Merges what has changed with what copies of the heap share, where it is very much. Where memory
+    /// is wanted too, names and bytes are as they were.
     pub fn settle(&mut self) -> Result<(), OutOfMemory>
         ensures names { self.new.names ≡ self.old.names }
         ensures bytes { bytes_at self.new.blocks ≡ bytes_at self.old.blocks }
     {
-        self.names.settle()?;
-        self.blocks.settle()?;
+        self.names.settle(MOST_NEWER)?;
+        self.blocks.settle(MOST_NEWER)?;
+        Ok(())
+    }
+
+    /// Merges what has changed with what copies of the heap share, where it is much for a heap that
+    /// is copied once for each cell. Where memory is wanted too, names and bytes are as they were.
+    pub fn settle_early(&mut self) -> Result<(), OutOfMemory>
+        ensures names { self.new.names ≡ self.old.names }
+        ensures bytes { bytes_at self.new.blocks ≡ bytes_at self.old.blocks }
+    {
+        self.names.settle_early()?;
+        self.blocks.settle_early()?;
         Ok(())
     }
 
@@ -356,7 +368,7 @@ impl Heap {
     }
 
     /// Returns a copy as `try_clone` does, without the blocks that no bound value lies in. Its
-    /// layers are merged where they are many.
+    /// layers are merged where they are very many.
     pub fn try_collected(&self) -> Result<Heap, OutOfMemory>
         ensures names { IfOk result (λ h. h.names ≡ self.now.names) }
         ensures bytes { IfOk result (λ h. (b : values.Base) → bytes_at h.blocks b

@@ -6,10 +6,14 @@ ghost use Rattle.nd_heap.specs.Sharing.{held_in};
 use std::alloc::AllocError;
 use std::rc::Rc;
 
-/// How many entries the newer layers of a table have at most when a cell begins, by how many its old one has: more are put among the old
+/// How many entries the newer layers of a table have at most behind a statement, at a replay and in a copy: more are put among the old
 /// ones, which copies all.
-pub(crate) fn most_newer(old: usize) -> usize {
-    (old / 16).clamp(32, 256)
+pub(crate) const MOST_NEWER: usize = 512;
+
+/// How many entries the newer layers of a table have at most that is copied once for each cell, by how many its old one has: to copy
+/// these for some cells then costs about what it costs to put them among the old ones.
+pub(crate) fn most_copied(old: usize) -> usize {
+    (old / 32).clamp(32, 256)
 }
 
 /// One layer of a table: its own, which takes no memory while empty, or one that versions share.

@@ -14,7 +14,7 @@ ghost use Rattle.nd_heap.specs.Sharing.{held_in};
 ghost use Rattle.nd_heap.specs.Values.{base_of, value_of, names_of};
 
 use crate::blocks::{Bases, drop_base, note_base};
-use crate::layer::{Layer, most_newer};
+use crate::layer::{Layer, most_copied};
 use crate::names::{
     Names, find, insert, is_held, is_held_below, lies_in, lies_in_label, marks_of, put_newer,
     remove, unbind,
@@ -250,25 +250,36 @@ impl NameTable {
         Ok(())
     }
 
-    /// Makes the old names the only layer where the others have grown.
-    pub(crate) fn settle(&mut self) -> Result<(), OutOfMemory>
+    /// Makes the old names the only layer where the others have more than this many.
+    pub(crate) fn settle(&mut self, most: usize) -> Result<(), OutOfMemory>
         ensures { self.new ≡ self.old }
     {
-        if self.newer.len() + self.added.len() <= most_newer(self.shared.as_ref().len()) {
+        if self.newer.len() + self.added.len() <= most {
             return Ok(());
         }
         let flat = self.flat()?;
         self.hold(flat)
     }
 
+    /// Makes the old names the only layer where the others are many for a table that is often copied.
+    pub(crate) fn settle_early(&mut self) -> Result<(), OutOfMemory>
+        ensures { self.new ≡ self.old }
+    {
+        let most = most_copied(self.shared.as_ref().len());
+        self.settle(most)
+    }
+
     /// Returns true only where a name of the newer layer has a value in the base.
     fn has_newer_holder(&self, base: Base) -> bool
         ensures { IsTrue result → IsTrue (model.is_held (base_of base) self.now) }
     {
-        for i in 0..self.newer.len() {
-            let Some((name, _)) = self.newer.get_index(i) else {
+        for i in (0..self.newer.len()).rev() {
+            let Some((name, newer)) = self.newer.get_index(i) else {
                 unreachable!();
             };
+            if !lies_in(newer.as_ref(), base) {
+                continue;
+            }
             if let Some(value) = self.find(name.as_str()) {
                 if lies_in(value.as_ref(), base) {
                     return true;

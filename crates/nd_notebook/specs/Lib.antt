@@ -2,6 +2,7 @@ pub mod Edits
 pub mod Queries
 pub mod Readers
 pub mod ReadsShown
+pub mod Sharing
 pub mod SoFar
 pub mod Together
 pub mod Tried

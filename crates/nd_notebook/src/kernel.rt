@@ -2,13 +2,14 @@
 
 ghost use Rattle.nd_model.specs.Cells.Session.{collected};
 ghost use Rattle.nd_model.specs.Cells.Running as running;
-ghost use Rattle.nd_session.specs.Session.Change.{change_of};
 ghost use Rattle.nd_session.specs.Session.Filter as filters;
 ghost use Rattle.nd_session.specs.Session.Kept.{version_of};
 ghost use Rattle.nd_session.specs.Session.Live.{live};
 ghost use Rattle.nd_session.specs.Inputs.Values.{given_of, rule_of};
 ghost use Rattle.nd_cell.specs.Records.{recorded};
+ghost use Rattle.nd_notebook.specs.Sharing.{changed_in};
 
+use crate::shared_change::SharedChange;
 use crate::world::World;
 use nd_cell::{Meter, Record, run_cell};
 use nd_schedule::schedule::CellRunner;
@@ -52,7 +53,8 @@ impl CellRunner for SessionRunner {
 
     type World = World;
 
-    type Change = Change;
+    // shared, so that it is noted for many snapshots at the cost of one
+    type Change = SharedChange;
 
     type Word = KeyFilter;
 
@@ -67,7 +69,7 @@ impl CellRunner for SessionRunner {
 
     ghost given = { λ w. record { inputs = given_of w.inputs.entries; rule = rule_of w.rule } };
 
-    ghost change_of = { λ c. change_of c };
+    ghost change_of = { λ c. changed_in c };
 
     ghost kept_session = { λ v. collected (version_of v.value) };
 
@@ -107,13 +109,13 @@ impl CellRunner for SessionRunner {
         made.last_of(name)
     }
 
-    fn no_change(alloc: Global) -> Change {
-        Change::new(alloc)
+    fn no_change(alloc: Global) -> SharedChange {
+        SharedChange::nothing(alloc)
     }
 
-    fn world_change(alloc: Global, old: &World, new: &World) -> Result<Change, AllocError> {
+    fn world_change(alloc: Global, old: &World, new: &World) -> Result<SharedChange, AllocError> {
         match Change::of_world(alloc, &old.inputs, old.rule, &new.inputs, new.rule) {
-            Ok(change) => Ok(change),
+            Ok(change) => Ok(SharedChange::new(alloc, change)?),
             Err(memory) => Err(memory.into()),
         }
     }
@@ -122,23 +124,30 @@ impl CellRunner for SessionRunner {
         made.filter()
     }
 
-    fn change_word(change: &Change) -> KeyFilter {
-        change.filter()
+    fn change_word(change: &SharedChange) -> KeyFilter {
+        match &change.held {
+            Some(held) => held.as_ref().filter(),
+            None => Change::new(change.alloc).filter(),
+        }
     }
 
     fn are_apart(one: &KeyFilter, other: &KeyFilter) -> bool {
         one.is_apart(other)
     }
 
-    fn fits(made: &Record, change: &Change) -> bool {
-        made.fits(change)
+    fn fits(made: &Record, change: &SharedChange) -> bool {
+        match &change.held {
+            Some(held) => made.fits(held.as_ref()),
+            None => made.fits(&Change::new(change.alloc)),
+        }
     }
 
-    fn keep(made: &Record, change: &mut Change) -> Result<(), AllocError> {
-        match made.keep(change) {
-            Ok(()) => Ok(()),
-            Err(memory) => Err(memory.into()),
-        }
+    fn keep(made: &Record, change: &mut SharedChange) -> Result<(), AllocError> {
+        let mut held = change.take()?;
+        let own = Rc::make_mut(&mut held)?;
+        made.keep(own)?;
+        change.held = Some(held);
+        Ok(())
     }
 
     fn rerun(
@@ -146,23 +155,37 @@ impl CellRunner for SessionRunner {
         made: &Record,
         session: &Session,
         _world: &World,
-        change: &mut Change,
+        change: &mut SharedChange,
     ) -> Result<(), AllocError> {
-        match made.follow(before, session, change) {
-            Ok(()) => Ok(()),
-            Err(memory) => Err(memory.into()),
-        }
+        let mut held = change.take()?;
+        let own = Rc::make_mut(&mut held)?;
+        made.follow(before, session, own)?;
+        change.held = Some(held);
+        Ok(())
     }
 
-    fn went(before: &Record, session: &Session, change: &mut Change) -> Result<(), AllocError> {
-        match before.leave(session, change) {
-            Ok(()) => Ok(()),
-            Err(memory) => Err(memory.into()),
-        }
+    fn went(
+        before: &Record,
+        session: &Session,
+        change: &mut SharedChange,
+    ) -> Result<(), AllocError> {
+        let mut held = change.take()?;
+        let own = Rc::make_mut(&mut held)?;
+        before.leave(session, own)?;
+        change.held = Some(held);
+        Ok(())
     }
 
-    fn came(made: &Record, session: &Session, change: &mut Change) -> Result<(), AllocError> {
-        match made.come(session, change) {
+    fn came(made: &Record, session: &Session, change: &mut SharedChange) -> Result<(), AllocError> {
+        let mut held = change.take()?;
+        let own = Rc::make_mut(&mut held)?;
+        made.come(session, own)?;
+        change.held = Some(held);
+        Ok(())
+    }
+
+    fn settle(session: &mut Session) -> Result<(), AllocError> {
+        match session.settle_early() {
             Ok(()) => Ok(()),
             Err(memory) => Err(memory.into()),
         }
@@ -182,16 +205,25 @@ impl CellRunner for SessionRunner {
         }
     }
 
-    fn is_empty(change: &Change) -> bool {
-        change.is_empty()
+    fn is_empty(change: &SharedChange) -> bool {
+        match &change.held {
+            Some(held) => held.as_ref().is_empty(),
+            None => true,
+        }
     }
 
-    fn change_count(change: &Change) -> usize {
-        change.count()
+    fn change_count(change: &SharedChange) -> usize {
+        match &change.held {
+            Some(held) => held.as_ref().count(),
+            None => 0,
+        }
     }
 
-    fn change_size(change: &Change) -> u64 {
-        change.weight()
+    fn change_size(change: &SharedChange) -> u64 {
+        match &change.held {
+            Some(held) => held.as_ref().weight(),
+            None => 0,
+        }
     }
 
     fn written_size(records: &[Rc<Record>], session: &Session) -> u64 {
@@ -202,17 +234,14 @@ impl CellRunner for SessionRunner {
         size
     }
 
-    fn share(change: &Change) -> Result<Change, AllocError> {
-        match change.try_clone() {
-            Ok(change) => Ok(change),
-            Err(memory) => Err(memory.into()),
-        }
+    fn share(change: &SharedChange) -> Result<SharedChange, AllocError> {
+        change.share()
     }
 
-    fn patch(change: &Change, session: &mut Session) -> Result<bool, AllocError> {
-        match change.patch(session) {
-            Ok(could) => Ok(could),
-            Err(memory) => Err(memory.into()),
+    fn patch(change: &SharedChange, session: &mut Session) -> Result<bool, AllocError> {
+        match &change.held {
+            Some(held) => Ok(held.as_ref().patch(session)?),
+            None => Ok(Change::new(change.alloc).patch(session)?),
         }
     }
 

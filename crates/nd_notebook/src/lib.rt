@@ -7,6 +7,7 @@ mod kernel;
 mod notebook;
 mod query;
 mod reading;
+mod shared_change;
 mod together;
 mod trying;
 mod world;

@@ -1,3 +1,4 @@
 pub mod Free
 pub mod Spliced
+pub mod Turned
 pub mod Used

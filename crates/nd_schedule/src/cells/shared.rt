@@ -20,6 +20,20 @@ pub fn make_room<T: Drop>(
     list.reserve(count.saturating_sub(to - from))
 }
 
+/// Turns the values between two places by one, so that the value at `from` is at `to` afterwards.
+fn turn<T>(list: &mut [T], from: usize, to: usize)
+    requires from { from < length list.old }
+    requires to { to < length list.old }
+    ensures { (x : T) → list.new
+        ≡ insert (remove list.old from) to (slice_index_or list.old from x) }
+{
+    if from < to {
+        list[from..to + 1].rotate_left(1);
+    } else {
+        list[to..from + 1].rotate_right(1);
+    }
+}
+
 /// Moves the value at `from`, so that it is at `to` afterwards. It takes no memory.
 pub fn move_item<T: Drop>(list: &mut Vec<T>, from: usize, to: usize)
     requires from { from < length list.old.items }
@@ -27,7 +41,5 @@ pub fn move_item<T: Drop>(list: &mut Vec<T>, from: usize, to: usize)
     ensures { (x : T) → list.new.items
         ≡ insert (remove list.old.items from) to (slice_index_or list.old.items from x) }
 {
-    let one = list.remove(from);
-    // never fails, since there is room
-    let _room = list.insert(to, one);
+    turn(list, from, to)
 }

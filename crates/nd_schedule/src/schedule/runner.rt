@@ -163,6 +163,10 @@ pub trait CellRunner: Drop {
             (Comes (change_of change.old) (change_of change.new) (recorded made.now)
             (session_of session.now)) };
 
+    /// Makes a session cheaper to keep and to thaw, where that is due. It stays as it is, for want of memory too.
+    fn settle(session: &mut Self::Session) -> Result<(), AllocError>
+        ensures { session_of session.new ≡ session_of session.old };
+
     /// The session as it is now, to be kept.
     fn freeze(session: &mut Self::Session) -> Result<Self::Version, AllocError>
         ensures kept { IfOk result (λ v. kept_session v ≡ session_of session.old) }

@@ -638,6 +638,8 @@ pub(crate) fn keep_end<C: CellRunner>(
         → All (λ s. IsSnapshot b s.place (C.kept_session s.version)
         (map C.change_of s.pending.items)) snapshots.new.items }
 {
+    // what stands here is thawed and kept anew with each cell that is added behind the last one
+    let _unsettled = C::settle(session);
     let cost = end_cost::<C>(snapshots, records, session);
     keep_at::<C>(alloc, snapshots, session, records.len(), cost, true);
     thin::<C>(snapshots, records.len());

@@ -1,6 +1,6 @@
 //! `sweep`: carries a change over the cells behind an edit, runs those whose records do not fit it, and notes it for the snapshots.
 
-ghost use Rattle.std.specs.Prelude.{◌≡◌, ◌<◌, ◌≤◌, ◌+◌, ◌-◌, ◌^◌, ◌++◌, ◌∷◌, ◌⊎◌, [], ℕ, IfOk, IfSome, None, OnOk, length, map, min};
+ghost use Rattle.std.specs.Prelude.{◌≡◌, ◌<◌, ◌≤◌, ◌+◌, ◌-◌, ◌^◌, ◌++◌, ◌∷◌, ◌⊎◌, [], ℕ, IfOk, IfSome, None, OnOk, length, map, min, slice_index_or};
 ghost use Rattle.std.specs.Prelude.{string_bytes};
 ghost use Rattle.std.specs.List.{All};
 ghost use Rattle.nd_model.specs.Grammar.Reading.{reading};
@@ -70,8 +70,30 @@ fn catch_up<C: CellRunner>(
     Ok(())
 }
 
-/// A session for the place where the sweep stands: the last snapshot in front, brought to the place, with the change put over it. There is
-/// none where the session at hand is as near, or the change has too many keys or cannot be put over a session.
+/// The last snapshot in front of the place where the sweep stands. There is none where the session at hand is as near, or the change has
+/// too many keys.
+fn find_nearer<C: CellRunner>(
+    snapshots: &[Snapshot<C>],
+    i: usize,
+    state: &SweepState<C>,
+) -> Option<usize>
+    ensures within { IfSome result (λ k. k < length snapshots.now) }
+    ensures up_to { IfSome result
+        (λ k. slice_index_or (map (λ s. s.place) snapshots.now) k 0 ≤ i) }
+{
+    if C::change_count(&state.change) > MOST_KEYS {
+        return None;
+    }
+    let k = last_up_to::<C>(snapshots, i)?;
+    if snapshots[k].place > state.since {
+        Some(k)
+    } else {
+        None
+    }
+}
+
+/// A session for the place where the sweep stands: the nearer snapshot, brought to the place, with the change put over it. There is none
+/// where no snapshot is nearer, or the change cannot be put over a session.
 fn nearer<C: CellRunner>(
     alloc: Global,
     records: &[Rc<C::Record>],
@@ -89,14 +111,10 @@ fn nearer<C: CellRunner>(
         → IsChangeAt old new i j (C.change_of state.now.change)
         → IsAtHand old new i j (C.session_of s) i)) }
 {
-    let Some(k) = last_up_to::<C>(snapshots, i) else {
+    let Some(k) = find_nearer::<C>(snapshots, i, state) else {
         return Ok(None);
     };
-    let snapshot = &snapshots[k];
-    if snapshot.place <= state.since || C::change_count(&state.change) > MOST_KEYS {
-        return Ok(None);
-    }
-    let Some(mut session) = session_from::<C>(alloc, records, snapshot, i)? else {
+    let Some(mut session) = session_from::<C>(alloc, records, &snapshots[k], i)? else {
         return Ok(None);
     };
     if !C::patch(&state.change, &mut session)? {

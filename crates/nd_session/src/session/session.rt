@@ -365,12 +365,22 @@ impl Session {
         Ok(())
     }
 
-    /// Merges the layers of names and blocks, where they are many.
+    /// Merges the layers of names and blocks, where they are very many.
     #[tactic(auto, unfolding(crate::specs::Session::Live::live))]
     fn settle(&mut self) -> Result<(), OutOfMemory>
         ensures { live self.new ≡ live self.old }
     {
         self.heap.settle()?;
+        Ok(())
+    }
+
+    /// Merges the layers of names and blocks, where they are many for a session that is kept and thawed
+    /// once for each cell. Both then cost less.
+    #[tactic(auto, unfolding(crate::specs::Session::Live::live))]
+    pub fn settle_early(&mut self) -> Result<(), OutOfMemory>
+        ensures { live self.new ≡ live self.old }
+    {
+        self.heap.settle_early()?;
         Ok(())
     }
 

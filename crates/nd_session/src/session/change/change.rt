@@ -1,6 +1,6 @@
 //! `Change`: what stands now at each key where a session may differ from the one before an edit.
 
-ghost use Rattle.std.specs.Prelude.{◌≡◌, ◌+◌, ◌-◌, ◌^◌, IfOk, IsTrue, None, length, map, min, sum};
+ghost use Rattle.std.specs.Prelude.{◌≡◌, ◌+◌, ◌-◌, ◌^◌, IsTrue, None, length, map, min, sum};
 ghost use Rattle.nd_heap.specs.Contents.{bytes_in};
 ghost use Rattle.nd_model.specs.Cells.Running.{Key};
 ghost use Rattle.nd_session.specs.Session.Change.{change_of};
@@ -10,9 +10,9 @@ use crate::inputs::{CellRule, Input};
 use crate::session::found::shared_bytes;
 use indexmap::IndexMap;
 use nd_block::RawBlock;
-use nd_heap::{Base, OutOfMemory, Value};
+use nd_heap::{Base, Value};
 use nd_marks::KeptBytes;
-use std::alloc::Global;
+use std::alloc::{AllocError, Global};
 use std::marker::Model;
 use std::rc::{Rc, RcStr};
 
@@ -53,6 +53,46 @@ impl Model for Change {
     ghost use Rattle.nd_session.specs.Session.Now.{data_in};
 
     ghost view = { data_in };
+}
+
+impl Clone for Change {
+    ghost is_clone = { λ change copy. copy ≡ change };
+
+    // Values, inputs and blocks are shared: no byte is copied.
+    fn clone(&self) -> Result<Change, AllocError> {
+        let blocks = self.blocks.clone()?;
+        let parts = match self.parts.clone() {
+            Ok(parts) => parts,
+            Err(refused) => {
+                drop(blocks);
+                return Err(refused);
+            }
+        };
+        let inputs = match self.inputs.clone() {
+            Ok(inputs) => inputs,
+            Err(refused) => {
+                drop(blocks);
+                drop(parts);
+                return Err(refused);
+            }
+        };
+        match self.names.clone() {
+            Ok(names) => Ok(Change {
+                names,
+                inputs,
+                blocks,
+                parts,
+                rule: self.rule,
+                alloc: self.alloc,
+            }),
+            Err(refused) => {
+                drop(blocks);
+                drop(parts);
+                drop(inputs);
+                Err(refused)
+            }
+        }
+    }
 }
 
 /// The number of bytes of some blocks in all.
@@ -97,44 +137,6 @@ impl Change {
             parts: IndexMap::new(alloc),
             rule: None,
             alloc,
-        }
-    }
-
-    /// Returns an equal change. Values, inputs and blocks are shared: no byte is copied.
-    pub fn try_clone(&self) -> Result<Change, OutOfMemory>
-        ensures { IfOk result (λ c. change_of c ≡ change_of self.now) }
-    {
-        let blocks = self.blocks.clone()?;
-        let parts = match self.parts.clone() {
-            Ok(parts) => parts,
-            Err(memory) => {
-                drop(blocks);
-                return Err(memory.into());
-            }
-        };
-        let inputs = match self.inputs.clone() {
-            Ok(inputs) => inputs,
-            Err(memory) => {
-                drop(blocks);
-                drop(parts);
-                return Err(memory.into());
-            }
-        };
-        match self.names.clone() {
-            Ok(names) => Ok(Change {
-                names,
-                inputs,
-                blocks,
-                parts,
-                rule: self.rule,
-                alloc: self.alloc,
-            }),
-            Err(memory) => {
-                drop(blocks);
-                drop(parts);
-                drop(inputs);
-                Err(memory.into())
-            }
         }
     }
 

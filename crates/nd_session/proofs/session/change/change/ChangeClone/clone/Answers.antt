@@ -3,12 +3,11 @@ use Rattle.nd_heap.specs.Contents.{bytes_in}
 use Rattle.nd_heap.specs.Values.{entries_of, value_of}
 use Rattle.nd_input.specs.Sources.{source_of}
 use Rattle.nd_session.specs.Inputs.Values.{rule_of}
-use Rattle.nd_session.specs.Session.Change.{change_of}
 use Rattle.nd_session.specs.Session.Found.{by_base}
 use Rattle.nd_session.specs.Session.Now.{kept_in}
 use Rattle.nd_session.specs.Session.Reading.{source_at, value_at}
 use Rattle.nd_session.proofs.session.Copying.{copied_bases, copied_names, copied_shared}
-use Rattle.nd_session.proofs.session.change.change.Change.try_clone.Goals as goal
+use Rattle.nd_session.proofs.session.change.change.ChangeClone.clone.Goals as goal
 
 pub returns-in-Ok-clone-2 : goal.returns-in-Ok-clone-2
 returns-in-Ok-clone-2 c =
@@ -21,4 +20,4 @@ returns-in-Ok-clone-2 c =
     = copied_bases bytes_in _ (record { both = λ v w h. h; same = λ v w e. e; lost = λ v h. h; made = λ w h. h }) _ (λ a b h. h) i.blocks.entries c.in_ok-blocks.blocks.entries c.in_ok-blocks.ensures.cases in
     let parts : by_base kept_in c.in-Ok.parts.entries ≡ by_base kept_in i.parts.entries
     = copied_shared kept_in _ (λ v w h. h) _ (λ a b h. h) i.parts.entries c.in-Ok.parts.entries c.in-Ok.ensures.cases in
-    (λ k. change_of (record { names = names k; inputs = inputs k; blocks = blocks k; parts = parts k; rule = option_map rule_of i.rule })) ∙ ap change_of c.self.view_is
+    record { cases = (λ k. record { names = names k; inputs = inputs k; blocks = blocks k; parts = parts k; rule = option_map rule_of i.rule }) ∙ c.self.view_is }
